@@ -1,0 +1,2 @@
+-- Ranges of numbers, and lists made from them.
+pub mod Range
