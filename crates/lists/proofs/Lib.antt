@@ -1,0 +1,4 @@
+-- Laws of the definitions in specs/, by subject.
+pub mod First
+pub mod Over
+pub mod UpTo
