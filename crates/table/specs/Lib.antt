@@ -2,3 +2,4 @@
 pub mod Limits
 pub mod Zeros
 pub mod Meaning
+pub mod Parts

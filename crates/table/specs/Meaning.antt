@@ -3,13 +3,12 @@
 -- Assumes nothing.
 use Prim.Native.Nat.{ℕ}
 use mathlib.Core.Path.{_≡_}
-use mathlib.Core.List.{List}
+use mathlib.Core.List.{List, []}
 use lib.ListN.{length, getD}
 use Rattle.lists.specs.Range.{upTo}
 use Rattle.table.specs.declared.Task.{Task}
 use Rattle.table.specs.declared.Subsystem.{Subsystem}
 use Rattle.table.specs.declared.Table.{Table}
-use Rattle.table.specs.Zeros.{zeroTask, zeroSubsystem}
 
 -- A task: separation T, work C, deadline D, and its access to each of the M resources.
 pub record TaskM : Type 0 where
@@ -29,6 +28,13 @@ pub record System : Type 0 where
   pub resources : ℕ
   pub subsystems : List SubsystemM
 
+-- What stands past the end of an array. A count within its limit never reaches there.
+abbrev pub pastTasks : Task
+pastTasks = record { separation = 0; work = 0; deadline = 0; access = [] }
+
+abbrev pub pastSubsystems : Subsystem
+pastSubsystems = record { period = 0; budget = 0; count = 0; tasks = [] }
+
 -- The task with its first m accesses.
 unfoldable pub accessAt : Task → ℕ → ℕ
 accessAt t l = getD (t .access) l 0
@@ -44,14 +50,14 @@ taskM m t =
 
 -- The subsystem with its tasks in use.
 unfoldable pub taskAt : ℕ → Subsystem → ℕ → TaskM
-taskAt m s i = taskM m (getD (s .tasks) i zeroTask)
+taskAt m s i = taskM m (getD (s .tasks) i pastTasks)
 
 unfoldable pub subsystemM : ℕ → Subsystem → SubsystemM
 subsystemM m s = record { period = s .period; budget = s .budget; tasks = upTo (taskAt m s) (s .count) }
 
 -- The table with its subsystems in use.
 unfoldable pub subsystemAt : Table → ℕ → SubsystemM
-subsystemAt t s = subsystemM (t .resources) (getD (t .subsystems) s zeroSubsystem)
+subsystemAt t s = subsystemM (t .resources) (getD (t .subsystems) s pastSubsystems)
 
 unfoldable pub meaning : Table → System
 meaning t = record { resources = t .resources; subsystems = upTo (subsystemAt t) (t .count) }

@@ -1,0 +1,2 @@
+-- Laws of what a table means.
+pub mod Parts
