@@ -1,0 +1,6 @@
+-- Steps 1 and 2, the rules, and the number and place of each answer.
+pub mod Holding
+pub mod Rules
+pub mod Refusal
+pub mod Admitted
+pub mod Slots

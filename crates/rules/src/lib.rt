@@ -1,15 +1,29 @@
+// Rules 1 to 5, and what they rest on of steps 1 and 2. `judge` takes any table; it has no `requires`.
 ghost use mathlib.Core.Path.{_≡_};
 ghost use Prim.Native.Nat.{_≤_, _<_};
-ghost use lib.ListN.{getD};
-ghost use mathlib.Core.List.{[]};
-ghost use Rattle.table.specs.Meaning.{pastTasks};
 use table::Subsystem;
 use table::Table;
 
-fn access(sub: Subsystem, i: usize, l: usize) -> u32
-    requires { ⌜ (i < 8) × (l < 8) ⌝ }
-    ensures { λ r. ⌜ r ≡ getD (getD (sub .tasks) i pastTasks .access) l 0 ⌝ }
-{
-    let task = sub.tasks[i];
-    task.access[l]
+pub mod holding;
+
+// The rules, by what they are about.
+pub enum Rule {
+    Counts,
+    Range,
+    Order,
+    Access,
+    Overrun,
+}
+
+// Where a rule is broken, as document 01 prints it: subsystems and tasks from 1; task 0 is the subsystem itself, and
+// 0 0 the table as a whole.
+pub struct Place {
+    pub subsystem: u8,
+    pub task: u8,
+}
+
+// The judge's answer. specs/Refusal.antt gives the number and place of each case.
+pub enum Judged {
+    Admitted,
+    Refused(Rule, Place),
 }

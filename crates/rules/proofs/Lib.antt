@@ -1,0 +1,2 @@
+-- Laws of the definitions in specs/, by subject.
+pub mod HoldingLaws

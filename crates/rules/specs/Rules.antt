@@ -1,0 +1,91 @@
+-- Rules 1 to 5 over what a table means, and the first refusal in their order. A place is what document 01 prints:
+-- subsystems and tasks from 1, task 0 for the subsystem itself, and 0 0 for the table as a whole. Assumes nothing.
+use Prim.Native.Nat.{ℕ, zero, suc, _+_}
+use mathlib.Core.Bool.{Bool, true, false, cond, _||_, not, _&&_}
+use mathlib.Core.Option.{Option, none, some, Option·map}
+use mathlib.Core.List.{List}
+use lib.Dec.{ltb, leb, eqb}
+use lib.ListN.{length}
+use Rattle.lists.specs.Range.{allTo, firstOf, firstSuch, orElse}
+use Rattle.table.specs.Limits.{most, largest}
+use Rattle.table.specs.Meaning.{TaskM, SubsystemM, System}
+use Rattle.table.specs.Parts.{subsystemCount, subsystemOf, taskCount, taskOf, accessOf}
+use Rattle.rules.specs.declared.Rule.{Rule}
+use Rattle.rules.specs.declared.Rule.the-variants.{Counts, Range, Order, Access, Overrun}
+use Rattle.rules.specs.declared.Place.{Place}
+use Rattle.rules.specs.declared.Judged.{Judged}
+use Rattle.rules.specs.declared.Judged.the-variants.{Admitted, Refused}
+use Rattle.rules.specs.Holding.{holding}
+
+-- A count from 1 to the most; a time from 1 to the largest.
+abbrev pub countOut : ℕ → Bool
+countOut n = ltb n 1 || ltb most n
+
+abbrev pub timeOut : ℕ → Bool
+timeOut x = ltb x 1 || ltb largest x
+
+-- Whether task t's access to resource l is above a limit; whether that of some resource 1 .. m is.
+unfoldable pub accessWithin : ℕ → TaskM → ℕ → Bool
+accessWithin limit t l = leb (accessOf t l) limit
+
+unfoldable pub someAccessAbove : ℕ → ℕ → TaskM → Bool
+someAccessAbove m limit t = not (allTo (accessWithin limit t) m)
+
+-- Rule 1 for the table as a whole: N or M out of range.
+unfoldable pub tableBreaks : System → Bool
+tableBreaks sys = countOut (subsystemCount sys) || ltb most (sys .resources)
+
+-- What a subsystem breaks at its own place, s 0.
+unfoldable pub subsystemBreaks : ℕ → Rule → SubsystemM → Bool
+subsystemBreaks m Counts u = countOut (taskCount u)
+subsystemBreaks m Range u = timeOut (u .period) || timeOut (u .budget)
+subsystemBreaks m Order u = ltb (u .period) (u .budget)
+subsystemBreaks m Access u = false
+subsystemBreaks m Overrun u = ltb (u .period) (u .budget + holding m u)
+
+-- What a task breaks at its place, s i.
+unfoldable pub taskBreaks : ℕ → Rule → TaskM → Bool
+taskBreaks m Counts t = false
+taskBreaks m Range t =
+    timeOut (t .separation) || timeOut (t .work) || timeOut (t .deadline) || someAccessAbove m largest t
+taskBreaks m Order t = ltb (t .deadline) (t .work) || ltb (t .separation) (t .deadline)
+taskBreaks m Access t = someAccessAbove m (t .work) t
+taskBreaks m Overrun t = false
+
+-- Place i of a subsystem: 0 is the subsystem itself, i + 1 its task at index i.
+unfoldable pub placeBreaks : ℕ → Rule → SubsystemM → ℕ → Bool
+placeBreaks m k u zero = subsystemBreaks m k u
+placeBreaks m k u (suc i) = taskBreaks m k (taskOf u i)
+
+-- The first place of a subsystem that breaks rule k: place 0 before task 1, 2, …
+unfoldable pub offenderIn : ℕ → Rule → SubsystemM → Option ℕ
+offenderIn m k u = firstSuch (placeBreaks m k u) (suc (taskCount u)) 0
+
+unfoldable pub refusedAt : Rule → ℕ → ℕ → Judged
+refusedAt k s i = Refused k (record { subsystem = s; task = i })
+
+-- The refusal by rule k in the subsystem at index s, if it breaks the rule.
+unfoldable pub refusalIn : System → Rule → ℕ → Option Judged
+refusalIn sys k s = Option·map (refusedAt k (s + 1)) (offenderIn (sys .resources) k (subsystemOf sys s))
+
+-- The refusal by rule k, at the lowest subsystem that breaks it.
+unfoldable pub refusalBy : System → Rule → Option Judged
+refusalBy sys k = firstOf (refusalIn sys k) (subsystemCount sys) 0
+
+-- All of rule 1 before all of rule 2, and so on.
+unfoldable pub refusalOf : System → Option Judged
+refusalOf sys =
+    orElse (refusalBy sys Counts)
+    (orElse (refusalBy sys Range) (orElse (refusalBy sys Order) (orElse (refusalBy sys Access) (refusalBy sys Overrun))))
+
+unfoldable pub admittedUnless : Option Judged → Judged
+admittedUnless (some r) = r
+admittedUnless none = Admitted
+
+-- The judgement: N and M first, then the rules in order; a table that no rule refuses is admitted.
+unfoldable pub judgeOf : System → Judged
+judgeOf sys = cond (tableBreaks sys) (refusedAt Counts 0 0) (admittedUnless (refusalOf sys))
+
+-- The judgement of a table that is to hold one subsystem: any other N is refused by rule 1, at 0 0.
+unfoldable pub judgeOneOf : System → Judged
+judgeOneOf sys = cond (eqb (subsystemCount sys) 1) (judgeOf sys) (refusedAt Counts 0 0)
