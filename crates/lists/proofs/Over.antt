@@ -5,7 +5,7 @@ use native.Mathlib.Decide.{decLe}
 use native.Mathlib.Numerals.{add-one}
 use native.Mathlib.Omega.{arith}
 use mathlib.Core.Path.{_≡_, refl, sym, ap, ap₂, _∙_}
-use mathlib.Core.Bool.{Bool, true, false, _&&_}
+use mathlib.Core.Bool.{Bool, true, false, _&&_, true≢false}
 use mathlib.Core.Logic.{_⊎_, inl, inr, ⊎-elim}
 use Rattle.lists.specs.Range.{sumTo, largestTo, allTo}
 
@@ -100,6 +100,11 @@ largest-reached f (suc n) = go (largest-reached f n)
 ------------------------------------------------------------------------
 -- Every
 
+-- Both parts of a conjunction that holds.
+pub both-true : (a b : Bool) → (a && b) ≡ true → (a ≡ true) × (b ≡ true)
+both-true true b e = (refl, e)
+both-true false b e = absurd (true≢false (sym e))
+
 pub allTo-zero : (p : ℕ → Bool) → allTo p 0 ≡ true
 unfolding allTo
 allTo-zero p = refl
@@ -112,3 +117,26 @@ pub allTo-ext : (p q : ℕ → Bool) (n : ℕ) → ((i : ℕ) → i < n → p i 
 unfolding allTo
 allTo-ext p q zero h = refl
 allTo-ext p q (suc n) h = ap₂ _&&_ (allTo-ext p q n (λ i l. h i (omega arith))) (h n (omega arith))
+
+-- Where every one passes, each does.
+pub allTo-means : (p : ℕ → Bool) (n : ℕ) → allTo p n ≡ true → (i : ℕ) → i < n → p i ≡ true
+unfolding allTo
+allTo-means p zero e i h = absurd (omega arith)
+allTo-means p (suc n) e i h =
+    let both = both-true (allTo p n) (p n) e in
+    ⊎-elim (λ (q : i ≡ n). rw q (both .1)) (λ (l : i < n). allTo-means p n (both .0) i l)
+    (eq-or-lt-of-le {n = i} {m = n} (omega arith))
+
+-- Where each passes, every one does.
+pub allTo-is : (p : ℕ → Bool) (n : ℕ) → ((i : ℕ) → i < n → p i ≡ true) → allTo p n ≡ true
+unfolding allTo
+allTo-is p zero h = refl
+allTo-is p (suc n) h = rw (allTo-is p n (λ i l. h i (omega arith)), h n (omega arith))
+
+-- One that fails decides.
+pub allTo-fails : (p : ℕ → Bool) (n i : ℕ) → i < n → p i ≡ false → allTo p n ≡ false
+allTo-fails p n i h e = go (allTo p n) refl
+  where
+    go : (b : Bool) → allTo p n ≡ b → b ≡ false
+    go false q = refl
+    go true q = sym (allTo-means p n q i h) ∙ e

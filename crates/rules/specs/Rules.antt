@@ -6,7 +6,7 @@ use mathlib.Core.Option.{Option, none, some, Option·map}
 use mathlib.Core.List.{List}
 use lib.Dec.{ltb, leb, eqb}
 use lib.ListN.{length}
-use Rattle.lists.specs.Range.{allTo, firstOf, firstSuch, orElse}
+use Rattle.lists.specs.Range.{allTo, firstOf, firstSuch}
 use Rattle.table.specs.Limits.{most, largest}
 use Rattle.table.specs.Meaning.{TaskM, SubsystemM, System}
 use Rattle.table.specs.Parts.{subsystemCount, subsystemOf, taskCount, taskOf, accessOf}
@@ -61,31 +61,41 @@ placeBreaks m k u (suc i) = taskBreaks m k (taskOf u i)
 unfoldable pub offenderIn : ℕ → Rule → SubsystemM → Option ℕ
 offenderIn m k u = firstSuch (placeBreaks m k u) (suc (taskCount u)) 0
 
-unfoldable pub refusedAt : Rule → ℕ → ℕ → Judged
-refusedAt k s i = Refused k (record { subsystem = s; task = i })
+-- The place of the subsystem at index s at which it first breaks rule k.
+unfoldable pub place : ℕ → ℕ → Place
+place s i = record { subsystem = s; task = i }
 
--- The refusal by rule k in the subsystem at index s, if it breaks the rule.
-unfoldable pub refusalIn : System → Rule → ℕ → Option Judged
-refusalIn sys k s = Option·map (refusedAt k (s + 1)) (offenderIn (sys .resources) k (subsystemOf sys s))
+unfoldable pub offenderAt : System → Rule → ℕ → Option Place
+offenderAt sys k s = Option·map (place (s + 1)) (offenderIn (sys .resources) k (subsystemOf sys s))
 
--- The refusal by rule k, at the lowest subsystem that breaks it.
-unfoldable pub refusalBy : System → Rule → Option Judged
-refusalBy sys k = firstOf (refusalIn sys k) (subsystemCount sys) 0
+-- The first place that breaks rule k: in the lowest subsystem that breaks it.
+unfoldable pub offender : System → Rule → Option Place
+offender sys k = firstOf (offenderAt sys k) (subsystemCount sys) 0
 
--- All of rule 1 before all of rule 2, and so on.
-unfoldable pub refusalOf : System → Option Judged
-refusalOf sys =
-    orElse (refusalBy sys Counts)
-    (orElse (refusalBy sys Range) (orElse (refusalBy sys Order) (orElse (refusalBy sys Access) (refusalBy sys Overrun))))
+-- The judgement by rule k alone.
+abbrev pub refusedAt : Rule → Option Place → Judged
+refusedAt k (some p) = Refused k p
+refusedAt k none = Admitted
 
-unfoldable pub admittedUnless : Option Judged → Judged
-admittedUnless (some r) = r
-admittedUnless none = Admitted
+unfoldable pub judgedBy : System → Rule → Judged
+judgedBy sys k = refusedAt k (offender sys k)
 
--- The judgement: N and M first, then the rules in order; a table that no rule refuses is admitted.
+-- A refusal stands; where there is none, the next rule judges.
+abbrev pub unlessRefused : Judged → Judged → Judged
+unlessRefused (Refused k p) next = Refused k p
+unlessRefused Admitted next = next
+
+-- All of rule 1 before all of rule 2, and so on; a table that no rule refuses is admitted.
+unfoldable pub judgedInOrder : System → Judged
+judgedInOrder sys =
+    unlessRefused (judgedBy sys Counts)
+    (unlessRefused (judgedBy sys Range)
+    (unlessRefused (judgedBy sys Order) (unlessRefused (judgedBy sys Access) (judgedBy sys Overrun))))
+
+-- The judgement: N and M first.
 unfoldable pub judgeOf : System → Judged
-judgeOf sys = cond (tableBreaks sys) (refusedAt Counts 0 0) (admittedUnless (refusalOf sys))
+judgeOf sys = cond (tableBreaks sys) (Refused Counts (place 0 0)) (judgedInOrder sys)
 
 -- The judgement of a table that is to hold one subsystem: any other N is refused by rule 1, at 0 0.
 unfoldable pub judgeOneOf : System → Judged
-judgeOneOf sys = cond (eqb (subsystemCount sys) 1) (judgeOf sys) (refusedAt Counts 0 0)
+judgeOneOf sys = cond (eqb (subsystemCount sys) 1) (judgeOf sys) (Refused Counts (place 0 0))

@@ -1,6 +1,9 @@
 -- What the functions on one subsystem take for granted of its counts, so that no index leaves its array: what rule 1
 -- has judged. Assumes nothing.
 use Prim.Native.Nat.{ℕ, _≤_, _<_}
+use lib.ListN.{getD}
+use Rattle.table.specs.Meaning.{pastSubsystems}
+use Rattle.table.specs.declared.Table.{Table}
 use Rattle.table.specs.Limits.{most}
 use Rattle.table.specs.declared.Subsystem.{Subsystem}
 
@@ -16,3 +19,9 @@ pub record Slots (sub : Subsystem) (m l : ℕ) : Type 0 where
   pub tasks-most : sub .count ≤ most
   pub resources-most : m ≤ most
   pub listed : l < m
+
+-- A table whose counts rule 1 has passed.
+pub record CountedTable (t : Table) : Type 0 where
+  pub subsystems-most : t .count ≤ most
+  pub resources-most : t .resources ≤ most
+  pub counted : (s : ℕ) → s < t .count → Counted (getD (t .subsystems) s pastSubsystems) (t .resources)

@@ -4,6 +4,7 @@ ghost use Prim.Native.Nat.{_≤_, _<_};
 use table::Subsystem;
 use table::Table;
 
+pub mod breaks;
 pub mod holding;
 
 // The rules, by what they are about.
