@@ -39,8 +39,8 @@ module _ (m limit : ℕ) (task : Task) where
 
   -- An access within the limit: so far all are.
   pub access-within-turn :
-    (l : ℕ) → l < m → getD (task .access) l 0 ≤ limit → allTo (accessWithin limit (taskM m task)) l ≡ true →
-    allTo (accessWithin limit (taskM m task)) (l + 1) ≡ true
+      (l : ℕ) → l < m → getD (task .access) l 0 ≤ limit → allTo (accessWithin limit (taskM m task)) l ≡ true →
+      allTo (accessWithin limit (taskM m task)) (l + 1) ≡ true
   access-within-turn l h k e = rw (allTo-suc (accessWithin limit (taskM m task)) l, e, within-slot l h) (le-leb _ limit k)
 
   -- All are within the limit.
@@ -100,15 +100,15 @@ module _ (m : ℕ) (task : Task) where
   range-by-work a b e h f k = rw (← e, h, ← f, k)
 
   pub range-by-deadline :
-    (a b d : Bool) → a ≡ timeOut (task .separation) → a ≡ false → b ≡ timeOut (task .work) → b ≡ false →
-    d ≡ timeOut (task .deadline) → d ≡ true → true ≡ taskBreaks m Range (taskM m task)
+      (a b d : Bool) → a ≡ timeOut (task .separation) → a ≡ false → b ≡ timeOut (task .work) → b ≡ false →
+      d ≡ timeOut (task .deadline) → d ≡ true → true ≡ taskBreaks m Range (taskM m task)
   unfolding taskBreaks taskM
   range-by-deadline a b d e h f k g l = rw (← e, h, ← f, k, ← g, l)
 
   pub range-by-access :
-    (a b d x : Bool) → a ≡ timeOut (task .separation) → a ≡ false → b ≡ timeOut (task .work) → b ≡ false →
-    d ≡ timeOut (task .deadline) → d ≡ false → x ≡ someAccessAbove m largest (taskM m task) →
-    x ≡ taskBreaks m Range (taskM m task)
+      (a b d x : Bool) → a ≡ timeOut (task .separation) → a ≡ false → b ≡ timeOut (task .work) → b ≡ false →
+      d ≡ timeOut (task .deadline) → d ≡ false → x ≡ someAccessAbove m largest (taskM m task) →
+      x ≡ taskBreaks m Range (taskM m task)
   unfolding taskBreaks taskM
   range-by-access a b d x e h f k g l q = rw (← e, h, ← f, k, ← g, l) q
 

@@ -1,3 +1,5 @@
 -- Laws of the definitions in specs/, by subject.
 pub mod HoldingLaws
 pub mod BreaksLaws
+pub mod JudgingLaws
+pub mod OrderLaws

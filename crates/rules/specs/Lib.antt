@@ -4,3 +4,4 @@ pub mod Rules
 pub mod Refusal
 pub mod Admitted
 pub mod Slots
+pub mod Spots

@@ -62,7 +62,7 @@ unfoldable pub offenderIn : ℕ → Rule → SubsystemM → Option ℕ
 offenderIn m k u = firstSuch (placeBreaks m k u) (suc (taskCount u)) 0
 
 -- The place of the subsystem at index s at which it first breaks rule k.
-unfoldable pub place : ℕ → ℕ → Place
+abbrev pub place : ℕ → ℕ → Place
 place s i = record { subsystem = s; task = i }
 
 unfoldable pub offenderAt : System → Rule → ℕ → Option Place
@@ -85,16 +85,16 @@ abbrev pub unlessRefused : Judged → Judged → Judged
 unlessRefused (Refused k p) next = Refused k p
 unlessRefused Admitted next = next
 
--- All of rule 1 before all of rule 2, and so on; a table that no rule refuses is admitted.
-unfoldable pub judgedInOrder : System → Judged
-judgedInOrder sys =
-    unlessRefused (judgedBy sys Counts)
-    (unlessRefused (judgedBy sys Range)
-    (unlessRefused (judgedBy sys Order) (unlessRefused (judgedBy sys Access) (judgedBy sys Overrun))))
+-- All of rule 2 before all of rule 3, and so on; a table that no rule refuses is admitted.
+unfoldable pub judgedPastCounts : System → Judged
+judgedPastCounts sys =
+    unlessRefused (judgedBy sys Range)
+    (unlessRefused (judgedBy sys Order) (unlessRefused (judgedBy sys Access) (judgedBy sys Overrun)))
 
--- The judgement: N and M first.
+-- The judgement. All of rule 1 comes first: N and M, then each n.
 unfoldable pub judgeOf : System → Judged
-judgeOf sys = cond (tableBreaks sys) (Refused Counts (place 0 0)) (judgedInOrder sys)
+judgeOf sys =
+    cond (tableBreaks sys) (Refused Counts (place 0 0)) (unlessRefused (judgedBy sys Counts) (judgedPastCounts sys))
 
 -- The judgement of a table that is to hold one subsystem: any other N is refused by rule 1, at 0 0.
 unfoldable pub judgeOneOf : System → Judged

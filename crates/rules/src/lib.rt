@@ -6,6 +6,7 @@ use table::Table;
 
 pub mod breaks;
 pub mod holding;
+pub mod judging;
 
 // The rules, by what they are about.
 pub enum Rule {
