@@ -3,3 +3,5 @@ pub mod HoldingLaws
 pub mod BreaksLaws
 pub mod JudgingLaws
 pub mod OrderLaws
+pub mod Exactly
+pub mod Sound

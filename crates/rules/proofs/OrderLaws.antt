@@ -112,7 +112,8 @@ no-offender sys k e = go (offender sys k) e
     go none q = refl
     go (some p) q = let z : _≡_ {A = ℕ} 0 1 = cc in absurd (omega arith)
 
-mapped-none : {A B : Type 0} (f : A → B) (o : Option A) → Option·map f o ≡ none → o ≡ none
+-- Nothing mapped is nothing.
+pub mapped-none : {A B : Type 0} (f : A → B) (o : Option A) → Option·map f o ≡ none → o ≡ none
 mapped-none f none e = refl
 mapped-none f (some a) e = absurd (Option·some-ne-none (f a) e)
 

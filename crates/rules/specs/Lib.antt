@@ -3,5 +3,6 @@ pub mod Holding
 pub mod Rules
 pub mod Refusal
 pub mod Admitted
+pub mod Exactly
 pub mod Slots
 pub mod Spots
