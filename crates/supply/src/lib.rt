@@ -1,0 +1,28 @@
+// What a subsystem is sure to be given in a window of time: the formula of step 4 as a function. specs/ has the formula,
+// the ways of handing out that it speaks about and the published bound; proofs/Agreement.antt says that they agree.
+// Every function here is proved, and the crate assumes nothing of its own.
+ghost use mathlib.Core.Path.{_≡_};
+ghost use Prim.Native.Nat.{_≤_};
+ghost use Rattle.supply.specs.Supply.{supply};
+
+// The supply of a window of `x` ticks, for a budget of at least one tick that is given in each period before `end`.
+// The caller keeps the budget within its end and the end within the period; then no number here can wrap. One division.
+pub fn supply_in(period: u32, budget: u32, end: u32, x: u32) -> u32
+    requires { ⌜ (1 ≤ budget) × (budget ≤ end) × (end ≤ period) ⌝ }
+    ensures { λ r. ⌜ r ≡ supply period budget end x ⌝ }
+{
+    let lead = end - budget;
+    if x < lead {
+        return 0;
+    }
+    let idle = period - budget;
+    let past = x - lead;
+    let whole = past / period;
+    let rest = past - whole * period;
+    let full = whole * budget;
+    if rest <= idle {
+        full
+    } else {
+        full + (rest - idle)
+    }
+}
