@@ -6,4 +6,5 @@ pub mod GivenLaws
 pub mod EveryWindow
 pub mod WorstWay
 pub mod Agreement
+pub mod MomentLaws
 pub mod PublishedLaws
