@@ -1,0 +1,2 @@
+-- Laws that whoever works with least solutions cites.
+pub mod Up

@@ -1,0 +1,2 @@
+-- Division rounded up; loads, and the least solution over them.
+pub mod Up
