@@ -1,9 +1,9 @@
 -- What Up(a, b) satisfies for b of 1 or more: up a b * b lies between a and a + b - 1, and that says which number it is.
 -- Assumes nothing.
 use Prim.Native.Nat.{ℕ, suc, _+_, _-_, _*_, _/_, _≤_, _<_}
-use mathlib.Core.Path.{_≡_, sym, _∙_, ap}
-use native.Mathlib.Nat.{div-mul-le-self, lt-div-mul-add, lt-of-mul-lt-mul-right, le-of-suc-le-suc, suc-mul, zero-mul, add-div-right}
+use native.Mathlib.Nat.{div-mul-le-self, lt-div-mul-add, lt-of-mul-lt-mul-right, le-of-suc-le-suc, suc-mul, zero-mul, add-div-right, le-mul-of-pos-right}
 use native.Mathlib.Omega.{arith}
+use mathlib.Core.Path.{_≡_, sym, _∙_, ap}
 use Rattle.least.specs.Up.{up}
 
 -- The blocks hold a ticks.
@@ -33,6 +33,10 @@ up-pos a b h e = lt-of-mul-lt-mul-right b (omega (arith, up-holds a b h, zero-mu
 -- No time takes no block.
 pub up-zero : (b : ℕ) → 1 ≤ b → up 0 b ≡ 0
 up-zero b h = omega (arith, up-is-least 0 b 0 h (omega arith))
+
+-- There are no more blocks than ticks.
+pub up-at-most : (a b : ℕ) → 1 ≤ b → up a b ≤ a
+up-at-most a b h = up-is-least a b a h (le-mul-of-pos-right a h)
 
 -- What the code computes: the blocks before the last tick, and the one that the last tick is in.
 pub up-by-last-tick : (a b : ℕ) → 1 ≤ b → 1 ≤ a → (a - 1) / b + 1 ≡ up a b
