@@ -1,15 +1,17 @@
 -- Laws of what loads ask for: it grows with the time, one load adds what it asks for, and sums fit machine numbers.
 -- Assumes nothing.
-use Prim.Native.Nat.{ℕ, _+_, _*_, _^_, _≤_, _<_}
-use native.Mathlib.Nat.{mul-le-mul-right, mul-le-mul, lt-of-le-of-lt, le-of-lt}
+use Prim.Native.Nat.{ℕ, zero, suc, _+_, _-_, _*_, _^_, _≤_, _<_}
+use native.Mathlib.Nat.{add-zero, add-assoc, add-sub-of-le, mul-le-mul-right, mul-le-mul, lt-of-le-of-lt, le-of-lt}
 use native.Mathlib.Omega.{arith}
-use mathlib.Core.Path.{_≡_, ap}
+use native.Mathlib.Numerals.{add-one}
+use mathlib.Core.Path.{_≡_, ap, _∙_}
 use mathlib.Core.List.{List}
 use lib.Dec.{lit<}
-use lib.ListN.{getD}
+use lib.ListN.{getD, drop, length-drop}
+use lib.Seq.{getD-drop}
 use Rattle.lists.proofs.Over.{sumTo-zero, sumTo-suc, sumTo-mono, sumTo-at-most}
 use Rattle.least.specs.Up.{up}
-use Rattle.least.specs.Demand.{loadIn, demand, total}
+use Rattle.least.specs.Demand.{loadIn, demand, demandBetween, total}
 use Rattle.least.specs.Search.{Loads, reach}
 use Rattle.least.proofs.Up.{up-mono, up-at-most}
 
@@ -27,6 +29,17 @@ loads-fewer m l h =
       with-cost = omega (arith, l .with-cost);
       period-pos = λ t u. l .period-pos t (omega arith);
       cost-small = λ t u. l .cost-small t (omega arith);
+    }
+
+-- The loads from a to b are loads too.
+pub loads-from : {periods costs : List ℕ} {b : ℕ} (a : ℕ) → Loads periods costs b → a ≤ b → Loads (drop a periods) (drop a costs) (b - a)
+loads-from {periods} {costs} {b} a l h =
+    record {
+      few = omega (arith, l .few);
+      with-period = rw length-drop (omega (arith, l .with-period));
+      with-cost = rw length-drop (omega (arith, l .with-cost));
+      period-pos = λ t u. rw (getD-drop a periods t 0) (l .period-pos (a + t) (omega arith));
+      cost-small = λ t u. rw (getD-drop a costs t 0) (l .cost-small (a + t) (omega arith));
     }
 
 module _ (periods costs : List ℕ) where
@@ -61,3 +74,22 @@ module _ (periods costs : List ℕ) where
   demand-below n x l h =
       sumTo-at-most (loadIn periods costs x) n (2 ^ 44)
       (λ t u. le-of-lt (load-below x (getD periods t 0) (getD costs t 0) (l .period-pos t u) (l .cost-small t u) h))
+
+module _ (periods costs : List ℕ) where
+  -- The first b loads are the first a and those from a to b.
+  split-after : (a n x : ℕ) → demand periods costs a x + demand (drop a periods) (drop a costs) n x ≡ demand periods costs (a + n) x
+  split-after a zero x = omega (arith, demand-zero (drop a periods) (drop a costs) x, ap (λ (k : ℕ). demand periods costs k x) (add-zero a))
+  split-after a (suc n) x =
+      rw (← add-one n, ← add-assoc a n 1) (omega (arith, split-after a n x, demand-suc (drop a periods) (drop a costs) n x, demand-suc periods costs (a + n) x, same-load))
+    where
+      same-load : up x (getD (drop a periods) n 0) * getD (drop a costs) n 0 ≡ up x (getD periods (a + n) 0) * getD costs (a + n) 0
+      same-load = rw (getD-drop a periods n 0, getD-drop a costs n 0)
+
+  pub demand-split : (a b x : ℕ) → a ≤ b → demand periods costs a x + demandBetween periods costs a b x ≡ demand periods costs b x
+  unfolding demandBetween
+  demand-split a b x h = split-after a (b - a) x ∙ ap (λ (k : ℕ). demand periods costs k x) (add-sub-of-le h)
+
+  -- Loads from a to b ask for no less in more ticks.
+  pub between-mono : (a b : ℕ) {x y : ℕ} → Loads periods costs b → a ≤ b → x ≤ y → demandBetween periods costs a b x ≤ demandBetween periods costs a b y
+  unfolding demandBetween
+  between-mono a b l h u = demand-mono (drop a periods) (drop a costs) (b - a) (loads-from a l h) u
