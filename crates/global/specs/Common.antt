@@ -1,0 +1,16 @@
+-- What the rows of all subsystems share, as the code holds it: the loads and the outer ceilings, in arrays filled up with 0.
+-- Assumes nothing.
+use Rattle.lists.specs.Range.{padded}
+use Rattle.table.specs.Limits.{most}
+use Rattle.global.specs.declared.ceilings.Common.{Common}
+use Rattle.global.specs.Interfaces.{InterfacesM}
+use Rattle.global.specs.Parts.{count, periodOf, costOf}
+use Rattle.global.specs.Blocking.{outerCeiling}
+
+unfoldable pub commonOf : InterfacesM → Common
+commonOf g =
+    record {
+      periods = padded (periodOf g) 0 most (count g);
+      costs = padded (costOf g) 0 most (count g);
+      ceilings = padded (outerCeiling g) 0 most (g .resources);
+    }

@@ -1,0 +1,32 @@
+-- What the rules leave of interfaces, and what follows for the view of one subsystem: the facts that steps 6 to 11 rest on.
+-- Assumes nothing.
+use Prim.Native.Nat.{ℕ, _+_, _^_, _≤_, _<_}
+use mathlib.Core.Path.{_≡_}
+use lib.ListN.{length, getD}
+use Rattle.least.specs.Search.{Loads}
+use Rattle.table.specs.Limits.{most, largest}
+use Rattle.global.specs.Interfaces.{InterfacesM}
+use Rattle.global.specs.Parts.{count, periodOf, budgetOf, holding}
+use Rattle.global.specs.View.{View, resources, held, ceiling, cost}
+
+-- Interfaces of an admitted table: counts within the limit, 1 ≤ Q, and Q + X ≤ P ≤ 1,000,000.
+pub record Sound (g : InterfacesM) : Type 0 where
+  pub some-subsystem : 1 ≤ count g
+  pub few-subsystems : count g ≤ most
+  pub few-resources : g .resources ≤ most
+  pub period-small : (s : ℕ) → s < count g → periodOf g s ≤ largest
+  pub budget-pos : (s : ℕ) → s < count g → 1 ≤ budgetOf g s
+  pub fits : (s : ℕ) → s < count g → budgetOf g s + holding g s ≤ periodOf g s
+
+-- The same for the view of one subsystem.
+pub record Sound-view (v : View) : Type 0 where
+  pub loads : Loads (v .periods) (v .costs) (v .place + 1)
+  pub own-period : getD (v .periods) (v .place) 0 ≡ v .period
+  pub own-cost : getD (v .costs) (v .place) 0 ≡ cost v
+  pub budget-pos : 1 ≤ v .budget
+  pub fits : cost v ≤ v .period
+  pub period-small : v .period < 2 ^ 20
+  pub blocking-small : v .blocking < 2 ^ 20
+  pub few-resources : resources v ≤ most
+  pub same-resources : length (v .ceilings) ≡ resources v
+  pub ceiling-reaches : (l : ℕ) → 0 < held v l → ceiling v l ≤ v .place

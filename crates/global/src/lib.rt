@@ -1,0 +1,41 @@
+// Steps 6 to 11 over interfaces alone: outer ceilings, blocking, active period, jobs, budget ends, job ends, responses and
+// rows. An interface is all that the other subsystems see of one: its period, its budget and how long it may hold each
+// resource. Every function here is proved, and the crate assumes nothing. Indices count from 0; document 01 counts from 1.
+mod blocking;
+mod ceilings;
+
+use table::Table;
+
+// The interface of a subsystem: period P, budget Q, and for each resource its holding time X(s, l), 0 meaning no access.
+pub struct Interface {
+    pub period: u32,
+    pub budget: u32,
+    pub holding: [u32; Table::MOST],
+}
+
+// Interfaces of N subsystems over M resources. Slots past the counts may hold anything. A lower index is a higher priority.
+pub struct Interfaces {
+    pub count: usize,
+    pub resources: usize,
+    pub interfaces: [Interface; Table::MOST],
+}
+
+// How a row ends: with its response R within the period, or beyond it, or with none.
+pub enum Outcome {
+    Fits(u32),
+    Late(u32),
+    None,
+}
+
+// The row of a subsystem: X, its first failing task (0 for none), B, L, jobs, the first job and the lowest resource (0 for
+// none) that reach R, and the outcome, which holds R.
+pub struct Row {
+    pub holding: u32,
+    pub failing: u32,
+    pub blocking: u32,
+    pub active: u32,
+    pub jobs: u32,
+    pub job: u32,
+    pub resource: u32,
+    pub outcome: Outcome,
+}

@@ -1,0 +1,96 @@
+// Least solutions of x = constant + demand of a list of loads in x ticks, and division rounded up. Steps 7, 9 and 10 of
+// the analysis are such solutions. Loads come as a slice of periods and a slice of costs, of which the first n count.
+// Every function here is proved, and the crate assumes nothing.
+ghost use mathlib.Core.Path.{_≡_};
+ghost use mathlib.Core.Option.{some};
+ghost use Prim.Native.Nat.{_*_, _≤_, _<_, _^_};
+ghost use Rattle.least.specs.Up.{up};
+ghost use Rattle.least.specs.Demand.{demand, total};
+ghost use Rattle.least.specs.Least.{least, answered};
+ghost use Rattle.least.specs.Search.{Loads, Search, Comes-down, IsLeast, reach};
+
+// A least solution, or that none is at or below the bound.
+pub enum Least {
+    At(u32),
+    Beyond,
+}
+
+// The same number, in the width in which sums are made.
+pub fn wide(x: u32) -> u64
+    ensures { λ r. ⌜ (r ≡ x) × (r < 2 ^ 32) ⌝ }
+{
+    x as u64
+}
+
+// Up(a, b): a divided by b, rounded up, in one 32-bit division.
+pub fn round_up(a: u32, b: u32) -> u32
+    requires { ⌜ (1 ≤ a) × (1 ≤ b) ⌝ }
+    ensures { λ r. ⌜ r ≡ up a b ⌝ }
+{
+    (a - 1) / b + 1
+}
+
+// What one load asks for in x ticks.
+fn load_in(period: u32, cost: u32, x: u32) -> u64
+    requires { ⌜ (1 ≤ period) × (cost < 2 ^ 20) × (1 ≤ x) × (x < reach) ⌝ }
+    ensures { λ r. ⌜ (r ≡ up x period * cost) × (r < 2 ^ 44) ⌝ }
+{
+    wide(round_up(x, period)) * wide(cost)
+}
+
+// What the first n loads ask for in x ticks.
+pub fn demand_in(periods: &[u32], costs: &[u32], n: usize, x: u32) -> u64
+    requires { ⌜ Loads (now periods) (now costs) n ⌝ }
+    requires { ⌜ (1 ≤ x) × (x < reach) ⌝ }
+    ensures { λ r. ⌜ (r ≡ demand (now (periods .entry)) (now (costs .entry)) n x) × (r ≤ 2 ^ 48) ⌝ }
+{
+    let mut sum: u64 = 0;
+    let mut t: usize = 0;
+    while t < n {
+        sum += load_in(periods[t], costs[t], x);
+        t += 1;
+    }
+    sum
+}
+
+// The least solution from 1 up to the bound, found from a start at which the search may stand.
+pub fn least_solution(
+    periods: &[u32],
+    costs: &[u32],
+    n: usize,
+    constant: u64,
+    start: u32,
+    bound: u32,
+) -> Least
+    requires { ⌜ Search (now periods) (now costs) n constant start ⌝ }
+    requires { ⌜ bound < reach ⌝ }
+    ensures { λ r. ⌜ r ≡ answered (least (now (periods .entry)) (now (costs .entry)) n constant bound) ⌝ }
+{
+    let top = wide(bound);
+    let mut x = wide(start);
+    while x <= top {
+        let next = constant + demand_in(periods, costs, n, x as u32);
+        if next == x {
+            return Least::At(x as u32);
+        }
+        x = next;
+    }
+    Least::Beyond
+}
+
+// The least solution where the total is known to come down within reach, found from a start at which the search may
+// stand. There is one then, so no bound is tested and no other answer is given.
+pub fn least_within(periods: &[u32], costs: &[u32], n: usize, constant: u64, start: u32) -> u32
+    requires { ⌜ Search (now periods) (now costs) n constant start ⌝ }
+    requires { ⌜ Comes-down (total (now periods) (now costs) n constant) ⌝ }
+    ensures { λ r. ⌜ IsLeast (total (now (periods .entry)) (now (costs .entry)) n constant) r ⌝ }
+{
+    let mut x = start;
+    loop {
+        let next = constant + demand_in(periods, costs, n, x);
+        if next == wide(x) {
+            return x;
+        }
+        x = next as u32;
+    }
+}
