@@ -1,0 +1,51 @@
+// Bytes, words and decimal numbers, written into a lent buffer one after another: each function takes the place of the
+// next free byte and gives the place after what it wrote. That there is room is the caller's to show. Every function here
+// is proved, and the crate assumes nothing.
+ghost use mathlib.Core.Path.{_≡_};
+ghost use mathlib.Core.List.{[], _∷_};
+ghost use Prim.Native.Nat.{_+_, _≤_, _<_};
+ghost use lib.ListN.{length};
+ghost use Rattle.lines.specs.Written.{written};
+ghost use Rattle.lines.specs.Decimal.{decimal, digitByte};
+
+// One byte.
+pub fn put_byte(buf: &mut [u8], at: usize, b: u8) -> usize
+    requires { ⌜ at < length (now buf) ⌝ }
+    ensures { λ r. ⌜ (r ≡ at + 1) × (now (buf .exit) ≡ written (now (buf .entry)) at (b ∷ [])) ⌝ }
+{
+    buf[at] = b;
+    at + 1
+}
+
+// Several bytes, in their order.
+pub fn put_bytes(buf: &mut [u8], at: usize, bytes: &[u8]) -> usize
+    requires { ⌜ at + length (now bytes) ≤ length (now buf) ⌝ }
+    ensures { λ r. ⌜ (r ≡ at + length (now (bytes .entry))) × (now (buf .exit) ≡ written (now (buf .entry)) at (now (bytes .entry))) ⌝ }
+{
+    let mut i = 0;
+    while i < bytes.len() {
+        buf[at + i] = bytes[i];
+        i += 1;
+    }
+    at + i
+}
+
+// A number, in decimal, without leading zeros.
+pub fn put_number(buf: &mut [u8], at: usize, n: u32) -> usize
+    requires { ⌜ at + length (decimal n) ≤ length (now buf) ⌝ }
+    ensures { λ r. ⌜ (r ≡ at + length (decimal n)) × (now (buf .exit) ≡ written (now (buf .entry)) at (decimal n)) ⌝ }
+{
+    if n < 10 {
+        return put_byte(buf, at, digit(n));
+    }
+    let last = put_number(buf, at, n / 10);
+    put_byte(buf, last, digit(n % 10))
+}
+
+// The byte of a digit.
+fn digit(d: u32) -> u8
+    requires { ⌜ d < 10 ⌝ }
+    ensures { λ r. ⌜ r ≡ digitByte d ⌝ }
+{
+    48 + d as u8
+}
