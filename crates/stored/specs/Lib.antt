@@ -1,0 +1,4 @@
+-- Numbers as bytes, fields, the file of a system, what a read gives and what a write leaves.
+pub mod Numbers
+pub mod Field
+pub mod Judge
