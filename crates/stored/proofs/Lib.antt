@@ -1,3 +1,4 @@
 -- Laws of the definitions in specs/, by subject.
 pub mod Numbers
 pub mod Judging
+pub mod Decoding

@@ -3,7 +3,7 @@
 use Prim.Native.Nat.{ℕ, _+_, _-_, _*_}
 use mathlib.Core.List.{List, [], _∷_, _++_}
 use lib.ListN.{length, getD, take, drop}
-use Rattle.stored.specs.Numbers.{bigEndian, spelled}
+use Rattle.stored.specs.Numbers.{bigEndian, spelled, numberSize}
 
 -- The field with a tag and a value.
 unfoldable pub field : ℕ → List ℕ → List ℕ
@@ -48,7 +48,7 @@ abbrev pub taskTag : ℕ
 taskTag = 0x03
 
 abbrev pub taskLength : ℕ → ℕ
-taskLength m = 12 + 4 * m
+taskLength m = 12 + numberSize * m
 
 -- The version of the stored form.
 abbrev pub version : ℕ

@@ -2,3 +2,4 @@
 pub mod Numbers
 pub mod Field
 pub mod Judge
+pub mod Decode

@@ -13,9 +13,13 @@ unfoldable pub spelled : List ℕ → ℕ
 spelled [] = 0
 spelled (b ∷ bs) = b * 256 ^ length bs + spelled bs
 
--- The four-byte number that starts at an offset.
+-- A time or an access takes four bytes.
+abbrev pub numberSize : ℕ
+numberSize = 4
+
+-- The number of that many bytes that starts at an offset.
 unfoldable pub numberAt : List ℕ → ℕ → ℕ
-numberAt bytes at = spelled (take 4 (drop at bytes))
+numberAt bytes at = spelled (take numberSize (drop at bytes))
 
 -- Every element is a byte, as in every slice of bytes that a program holds.
 abbrev pub AreBytes : List ℕ → Type 0

@@ -1,5 +1,6 @@
 // The stored table: fields of bytes, the reader and the writer. Every function here is proved, and the crate assumes
 // nothing of its own. No public function has a `requires`.
+mod decode;
 mod judge;
 mod number;
 
