@@ -2,3 +2,5 @@
 pub mod Numbers
 pub mod Judging
 pub mod Decoding
+pub mod ReadTasks
+pub mod ReadSubsystems

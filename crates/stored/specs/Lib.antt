@@ -3,3 +3,4 @@ pub mod Numbers
 pub mod Field
 pub mod Judge
 pub mod Decode
+pub mod Read

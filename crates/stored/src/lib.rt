@@ -1,6 +1,11 @@
 // The stored table: fields of bytes, the reader and the writer. Every function here is proved, and the crate assumes
 // nothing of its own. No public function has a `requires`.
 mod decode;
+mod read;
+
+use table::Subsystem;
+use table::Table;
+
 mod judge;
 mod number;
 
@@ -25,4 +30,29 @@ pub enum FieldAnswer {
     Sound(usize),
     // Anything else.
     Faulty(Fault),
+}
+
+// A read's answer: the file is a table, or what is wrong with it and at which offset.
+pub enum ReadAnswer {
+    Whole,
+    Refused(Fault, usize),
+}
+
+// What a read gives: its answer, and the table, which is all zeros where the file is refused.
+pub struct Reading {
+    pub answer: ReadAnswer,
+    pub table: Table,
+}
+
+// Document 01's number and place of a read's answer.
+pub struct FileRefusal {
+    pub number: u8,
+    pub offset: usize,
+}
+
+// What the reading of one subsystem with its tasks gives: its answer, the subsystem, and the offset behind it.
+pub struct SubsystemReading {
+    pub answer: ReadAnswer,
+    pub subsystem: Subsystem,
+    pub next: usize,
 }
