@@ -4,9 +4,9 @@ use Prim.Native.Nat.{ℕ, zero, suc, _+_, _-_, _≤_, _<_}
 use native.Mathlib.Nat.{sub-zero}
 use native.Mathlib.Numerals.{add-one}
 use native.Mathlib.Omega.{arith}
-use borrow.Author.Tests.{lt-ltb, le-ltb, leb-true}
+use borrow.Author.Tests.{lt-ltb, le-ltb, leb-true, not-true}
 use mathlib.Core.Path.{_≡_, refl, sym, ap, _∙_}
-use mathlib.Core.Bool.{Bool, true, false, cond, _&&_}
+use mathlib.Core.Bool.{Bool, true, false, cond, not, _&&_}
 use mathlib.Core.Option.{Option, none, some, Option·some-ne-none}
 use mathlib.Core.List.{List}
 use lib.Dec.{leb, ltb, eqb}
@@ -18,6 +18,8 @@ use Rattle.table.specs.Limits.{most}
 use Rattle.table.specs.Zeros.{zeroSubsystem, zeroTable}
 use Rattle.table.specs.declared.Subsystem.{Subsystem}
 use Rattle.table.specs.declared.Table.{Table}
+use Rattle.rules.specs.Rules.{countOut}
+use Rattle.rules.proofs.OrderLaws.{in-range}
 use Rattle.stored.specs.declared.Fault.{Fault}
 use Rattle.stored.specs.declared.Fault.the-variants.{LeftOver}
 use Rattle.stored.specs.declared.FieldAnswer.{FieldAnswer}
@@ -27,7 +29,7 @@ use Rattle.stored.specs.declared.ReadAnswer.the-variants.{Whole, Refused
 use Rattle.stored.specs.declared.Reading.{Reading}
 use Rattle.stored.specs.declared.SubsystemReading.{SubsystemReading}
 use Rattle.stored.specs.Field.{fieldSize, valueOf, headerTag, headerLength, subsystemTag, subsystemLength, version}
-use Rattle.stored.specs.Judge.{countInRange, headerInRange, subsystemInRange, judgeHeader, judgeSubsystem}
+use Rattle.stored.specs.Judge.{headerInRange, subsystemInRange, judgeHeader, judgeSubsystem}
 use Rattle.stored.specs.Decode.{decodedHeader, decodedSubsystem}
 use Rattle.stored.specs.Read.{Refusal, refusedAt, wholeUnless, zerosIf, readingOf, headerIn, headAt, taskPlace, placeBehind, subsystemPlace, tasksRefusal, refusalFrom, subsystemRefusal, leftOver, bodyRefusal, refusalIn, subsystemFrom, subsystemRead, tableTo, tableIn, IsReading, readOf}
 use Rattle.stored.proofs.Judging.{sound-length, sound-whole, sound-value, sound-means, SoundField}
@@ -58,10 +60,8 @@ and-right : (a b : Bool) → (a && b) ≡ true → b ≡ true
 and-right true b e = e
 and-right false b e = let z : _≡_ {A = ℕ} 0 1 = cc in absurd (omega arith)
 
-pub count-in-range : (n : ℕ) → countInRange n ≡ true → (1 ≤ n) × (n ≤ most)
-unfolding countInRange
-count-in-range n e =
-    (leb-true 1 n (and-left (leb 1 n) (leb n most) e), leb-true n most (and-right (leb 1 n) (leb n most) e))
+pub count-in-range : (n : ℕ) → not (countOut n) ≡ true → (1 ≤ n) × (n ≤ most)
+count-in-range n e = in-range n (not-true (countOut n) e)
 
 ------------------------------------------------------------------------
 -- At a subsystem: its own field, and then its tasks
@@ -238,10 +238,10 @@ module _ (file : List ℕ) (a : FieldAnswer) (judged : a ≡ judgeHeader (partFr
     counts-in-range t e =
         let s = sound-means headerTag headerLength headerInRange file k (sym header-judged ∙ sound) in
         let v = valueOf headerLength file in
-        let rest = and-right (eqb (getD v 0 0) version) (countInRange (getD v 1 0) && leb (getD v 2 0) most) (s .1 .ranged) in
+        let rest = and-right (eqb (getD v 0 0) version) (not (countOut (getD v 1 0)) && leb (getD v 2 0) most) (s .1 .ranged) in
         rw e (
-          count-in-range (getD v 1 0) (and-left (countInRange (getD v 1 0)) (leb (getD v 2 0) most) rest) .1,
-          leb-true (getD v 2 0) most (and-right (countInRange (getD v 1 0)) (leb (getD v 2 0) most) rest),
+          count-in-range (getD v 1 0) (and-left (not (countOut (getD v 1 0))) (leb (getD v 2 0) most) rest) .1,
+          leb-true (getD v 2 0) most (and-right (not (countOut (getD v 1 0))) (leb (getD v 2 0) most) rest),
         )
 
     pub first-subsystem-stands : (m : ℕ) → fieldSize k ≡ subsystemPlace file m 0

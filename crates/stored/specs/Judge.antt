@@ -5,6 +5,7 @@ use mathlib.Core.List.{List}
 use lib.Dec.{ltb, leb, eqb}
 use lib.ListN.{length, getD}
 use Rattle.table.specs.Limits.{most}
+use Rattle.rules.specs.Rules.{countOut}
 use Rattle.stored.specs.declared.Fault.{Fault}
 use Rattle.stored.specs.declared.Fault.the-variants.{Short, OtherTag, OtherLength, OutOfRange, LeftOver}
 use Rattle.stored.specs.declared.FieldAnswer.{FieldAnswer}
@@ -35,16 +36,12 @@ judgeField tag due inRange rest =
     (refuseIf (not (inRange (valueOf due rest))) OutOfRange
     (Sound due)))))
 
--- A count from 1 to the most.
-unfoldable pub countInRange : ℕ → Bool
-countInRange n = leb 1 n && leb n most
-
--- What 14 judges: version, N and M of a header; n of a subsystem; nothing of a task.
+-- What 14 judges: version, N and M of a header; n of a subsystem; nothing of a task. Counts are judged as rule 1 does.
 unfoldable pub headerInRange : List ℕ → Bool
-headerInRange value = eqb (getD value 0 0) version && (countInRange (getD value 1 0) && leb (getD value 2 0) most)
+headerInRange value = eqb (getD value 0 0) version && (not (countOut (getD value 1 0)) && leb (getD value 2 0) most)
 
 unfoldable pub subsystemInRange : List ℕ → Bool
-subsystemInRange value = countInRange (getD value countAt 0)
+subsystemInRange value = not (countOut (getD value countAt 0))
 
 unfoldable pub anyValue : List ℕ → Bool
 anyValue value = true

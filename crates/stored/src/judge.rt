@@ -5,10 +5,11 @@ ghost use mathlib.Core.Bool.{true};
 ghost use Prim.Native.Nat.{_+_, _≤_, _<_};
 ghost use lib.ListN.{length};
 ghost use Rattle.stored.specs.Field.{startSize, fieldSize, statedLength, valueOf, headerLength, subsystemLength};
-ghost use Rattle.stored.specs.Judge.{judgeField, anyValue, judgeHeader, judgeSubsystem, countInRange, headerInRange, subsystemInRange};
+ghost use Rattle.stored.specs.Judge.{judgeField, anyValue, judgeHeader, judgeSubsystem, headerInRange, subsystemInRange};
 use crate::Fault;
 use crate::FieldAnswer;
-use crate::number::wide;
+use numbers::index;
+use rules::breaks::count_out;
 use table::Table;
 
 // The tags of the three kinds of field, and the version of the stored form.
@@ -33,7 +34,7 @@ pub fn stated_length(rest: &[u8]) -> usize
     requires { ⌜ startSize ≤ length (now rest) ⌝ }
     ensures { λ r. ⌜ (r ≡ statedLength (now (rest .entry))) × (r < 65536) ⌝ }
 {
-    (wide(rest[1]) * 256 + wide(rest[2])) as usize
+    index(rest[1]) * 256 + index(rest[2])
 }
 
 // The judgement of `rest` where a field with this tag and this length is due; nothing of its value is judged.
@@ -64,16 +65,6 @@ pub fn value(rest: &[u8], len: usize) -> &[u8]
     &rest[START..START + len]
 }
 
-// Whether a count is from 1 to the most.
-pub fn count_in_range(n: u8) -> bool
-    ensures { λ r. ⌜ r ≡ countInRange n ⌝ }
-{
-    if n < 1 {
-        return false;
-    }
-    (n as usize) <= Table::MOST
-}
-
 // Whether a header's value has the version and counts in range.
 fn header_in_range(value: &[u8]) -> bool
     requires { ⌜ headerLength ≤ length (now value) ⌝ }
@@ -82,10 +73,10 @@ fn header_in_range(value: &[u8]) -> bool
     if value[0] != VERSION {
         return false;
     }
-    if !count_in_range(value[1]) {
+    if count_out(value[1]) {
         return false;
     }
-    (value[2] as usize) <= Table::MOST
+    index(value[2]) <= Table::MOST
 }
 
 // The judgement of `rest` where a header is due.
@@ -111,8 +102,8 @@ pub fn judge_subsystem(rest: &[u8]) -> FieldAnswer
         return answer;
     };
     let counted = value(rest, len);
-    if count_in_range(counted[COUNT_AT]) {
-        return answer;
+    if count_out(counted[COUNT_AT]) {
+        return FieldAnswer::Faulty(Fault::OutOfRange);
     }
-    FieldAnswer::Faulty(Fault::OutOfRange)
+    answer
 }

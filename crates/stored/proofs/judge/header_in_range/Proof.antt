@@ -2,60 +2,60 @@ use native.Mathlib.Omega.{arith}
 use borrow.Author.Needs.{needs}
 use lib.ListN.{getD}
 use mathlib.Core.Path.{refl}
-use borrow.Author.Tests.{ne-eqb, eq-eqb, not-true, not-false}
+use borrow.Author.Tests.{ne-eqb, eq-eqb}
 use Rattle.stored.specs.Judge.{headerInRange}
 use Rattle.stored.proofs.judge.header_in_range.Statement.{statement}
 use Rattle.stored.proofs.judge.header_in_range.Tie as tie
 use Rattle.stored.proofs.judge.header_in_range.Reads as reads
 use Rattle.stored.proofs.judge.header_in_range.Lts as lts
-use Rattle.stored.proofs.judge.count_in_range.Reads as count-in-range-reads
+use Rattle.numbers.proofs.index.Reads as index-reads
+use Rattle.rules.proofs.breaks.count_out.Reads as count-out-reads
 
--- src/judge.rt:75:8
+-- src/judge.rt:73:8
 shared-slice-read-if1 : tie.Need-shared-slice-read-if1
 shared-slice-read-if1 c = search needs
 
--- src/judge.rt:76:9
+-- src/judge.rt:74:9
 returns : tie.Need-returns
 unfolding headerInRange
 returns c = rw (ne-eqb (getD (c .before .before .before .args .value .now) 0 0) 1 (c .if1 .taken)) refl
 
--- src/judge.rt:78:24
-shared-slice-read-count-in-range : tie.Need-shared-slice-read-count-in-range
-shared-slice-read-count-in-range c = search needs
+-- src/judge.rt:76:18
+shared-slice-read-count-out : tie.Need-shared-slice-read-count-out
+shared-slice-read-count-out c = search needs
 
--- src/judge.rt:78:9
-count-in-range-requires : tie.Need-count-in-range-requires
-count-in-range-requires c κs = search needs
+-- src/judge.rt:76:8
+count-out-requires : tie.Need-count-out-requires
+count-out-requires c κs = search needs
 
--- src/judge.rt:79:9
+-- src/judge.rt:77:9
 returns-2 : tie.Need-returns-2
 unfolding headerInRange
 returns-2 c =
-    let v = c .before .before .before .before .before .before .args .value .now in
     rw (
-      eq-eqb (getD v 0 0) 1 (c .before .before .before .if1 .left),
-      ← c .before .count-in-range .ensures,
-      not-true (c .before .count-in-range .result) (c .if2 .taken),
+      eq-eqb (getD (c .before .before .before .before .before .before .args .value .now) 0 0) 1 (c .before .before .before .if1 .left),
+      ← c .before .count-out .ensures,
+      c .if2 .taken,
     )
     refl
 
--- src/judge.rt:81:6
-shared-slice-read-result : tie.Need-shared-slice-read-result
-shared-slice-read-result c = search needs
+-- src/judge.rt:79:11
+shared-slice-read-index : tie.Need-shared-slice-read-index
+shared-slice-read-index c = search needs
 
--- src/judge.rt:81:6
-cast-result : tie.Need-cast-result
-cast-result c = omega (arith, c .shared-slice-known4 .given 2)
+-- src/judge.rt:79:5
+index-requires : tie.Need-index-requires
+index-requires c κs = search needs
 
--- src/judge.rt:71:1
+-- src/judge.rt:69:1
 returns-3 : tie.Need-returns-3
 unfolding headerInRange
 returns-3 c =
-    let v = c .before .before .before .before .before .before .before .args .value .now in
     rw (
-      eq-eqb (getD v 0 0) 1 (c .before .before .before .before .if1 .left),
-      ← c .before .before .count-in-range .ensures,
-      not-false (c .before .before .count-in-range .result) (c .before .if2 .left),
+      eq-eqb (getD (c .before .before .before .before .before .before .before .before .args .value .now) 0 0) 1 (c .before .before .before .before .before .if1 .left),
+      ← c .before .before .before .count-out .ensures,
+      c .before .before .if2 .left,
+      c .index .ensures .0,
     )
     refl
 
@@ -65,9 +65,9 @@ header-in-range-spec =
     (tie.spec
     shared-slice-read-if1
     returns
-    shared-slice-read-count-in-range
-    count-in-range-requires
+    shared-slice-read-count-out
+    count-out-requires
     returns-2
-    shared-slice-read-result
-    cast-result
+    shared-slice-read-index
+    index-requires
     returns-3)
