@@ -4,3 +4,5 @@ pub mod Judging
 pub mod Decoding
 pub mod ReadTasks
 pub mod ReadSubsystems
+pub mod FileLaws
+pub mod WriteSteps

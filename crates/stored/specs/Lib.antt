@@ -4,3 +4,5 @@ pub mod Field
 pub mod Judge
 pub mod Decode
 pub mod Read
+pub mod File
+pub mod Write

@@ -7,13 +7,12 @@ ghost use Rattle.stored.specs.Field.{headerLength, subsystemLength, task
 ghost use Rattle.stored.specs.Decode.{decodedHeader, decodedSubsystem, decodedTask};
 use crate::judge::COUNT_AT;
 use crate::number::number_at;
+use crate::number::NUMBER;
 use table::Subsystem;
 use table::Table;
 use table::Task;
 
-// How many bytes a number takes, and where the second and the third number of a value stand.
-pub const NUMBER: usize = 4;
-
+// Where the second and the third number of a value stand.
 const SECOND: usize = NUMBER;
 
 const THIRD: usize = 2 * NUMBER;

@@ -2,7 +2,9 @@
 // nothing of its own. No public function has a `requires`.
 mod decode;
 mod read;
+mod put;
 
+use rules::Place;
 use table::Subsystem;
 use table::Table;
 
@@ -55,4 +57,14 @@ pub struct SubsystemReading {
     pub answer: ReadAnswer,
     pub subsystem: Subsystem,
     pub next: usize,
+}
+
+// A write's answer. specs/Write.antt gives the number and place of each case.
+pub enum WriteAnswer {
+    // The file stands at the buffer's start, with so many bytes.
+    Written(usize),
+    // A count is out of range, at this place: rule 1.
+    Uncounted(Place),
+    // The buffer is shorter than the file.
+    NoRoom,
 }

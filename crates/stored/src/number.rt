@@ -1,10 +1,14 @@
 // Numbers as bytes, high byte first: one that is read out of a field's value, and one that is put into a buffer.
 // Assumes nothing.
 ghost use mathlib.Core.Path.{_≡_};
-ghost use mathlib.Core.List.{_++_};
-ghost use Prim.Native.Nat.{_+_, _≤_, _<_, _^_};
-ghost use lib.ListN.{length, drop};
-ghost use Rattle.stored.specs.Numbers.{bigEndian, numberAt};
+ghost use Prim.Native.Nat.{_+_, _≤_, _<_};
+ghost use lib.ListN.{length};
+ghost use Rattle.stored.specs.Numbers.{numberSize, numberAt};
+ghost use Rattle.stored.specs.File.{numberBytes};
+ghost use Rattle.stored.specs.Write.{IsPut};
+
+// How many bytes a number takes.
+pub const NUMBER: usize = 4;
 
 // A byte as a wider number, with its bound.
 pub fn wide(b: u8) -> u32
@@ -25,13 +29,14 @@ pub fn number_at(value: &[u8], at: usize) -> u32
     a * 16777216 + b * 65536 + c * 256 + d
 }
 
-// Puts the four bytes of x at the buffer's start.
-pub fn put_number(buf: &mut [u8], x: u32)
-    requires { ⌜ 4 ≤ length (now buf) ⌝ }
-    ensures { λ _. ⌜ now (buf .exit) ≡ bigEndian 4 x ++ drop 4 (now (buf .entry)) ⌝ }
+// Puts the four bytes of x at the start of the free bytes.
+pub fn put_number(free: &mut [u8], x: u32) -> usize
+    requires { ⌜ numberSize ≤ length (now free) ⌝ }
+    ensures { λ r. ⌜ IsPut (numberBytes x) (now (free .entry)) (now (free .exit)) r ⌝ }
 {
-    buf[0] = (x / 16777216 % 256) as u8;
-    buf[1] = (x / 65536 % 256) as u8;
-    buf[2] = (x / 256 % 256) as u8;
-    buf[3] = (x % 256) as u8;
+    free[0] = (x / 16777216 % 256) as u8;
+    free[1] = (x / 65536 % 256) as u8;
+    free[2] = (x / 256 % 256) as u8;
+    free[3] = (x % 256) as u8;
+    NUMBER
 }
