@@ -13,6 +13,7 @@ use Rattle.table.specs.declared.Task.{Task}
 use Rattle.table.specs.declared.Subsystem.{Subsystem}
 use Rattle.table.specs.Meaning.{TaskM, SubsystemM, System, accessAt, taskM, taskAt, subsystemM}
 use Rattle.table.specs.Parts.{taskCount, subsystemCount}
+use Rattle.table.proofs.Parts.{count-of-tasks}
 use Rattle.stored.specs.Numbers.{numberSize}
 use Rattle.stored.specs.Field.{field, fieldSize, headerTag, headerLength, subsystemTag, subsystemLength, taskTag, taskLength}
 use Rattle.stored.specs.File.{numberBytes, headerValue, subsystemValue, timesBytes, taskValue, taskField, subsystemBytes, fileOf}
@@ -113,19 +114,37 @@ length-task-at m sub i =
 pub length-first-tasks : (m : ℕ) (sub : Subsystem) (i : ℕ) → length (flatMap taskField (upTo (taskAt m sub) i)) ≡ i * fieldSize (taskLength m)
 length-first-tasks m sub zero = rw (flatMap-none taskField (taskAt m sub)) (sym (zero-mul (fieldSize (taskLength m))))
 length-first-tasks m sub (suc i) =
-    rw
-    (← add-one i,
-    flatMap-one-more taskField (taskAt m sub) i,
-    length-append,
-    length-first-tasks m sub i,
-    length-task-at m sub i,
-    add-one i)
+    rw (
+      ← add-one i,
+      flatMap-one-more taskField (taskAt m sub) i,
+      length-append,
+      length-first-tasks m sub i,
+      length-task-at m sub i,
+      add-one i,
+    )
     (sym (suc-mul i (fieldSize (taskLength m))))
 
-pub length-subsystemBytes : (m : ℕ) (sub : Subsystem) → length (subsystemBytes (subsystemM m sub)) ≡ fieldSize subsystemLength + sub .count * fieldSize (taskLength m)
+-- The bytes of a table's subsystem: its own field, and its tasks' fields.
+pub subsystem-bytes : (m : ℕ) (sub : Subsystem) → field subsystemTag (subsystemValue (sub .period) (sub .budget) (sub .count)) ++ flatMap taskField (upTo (taskAt m sub) (sub .count)) ≡ subsystemBytes (subsystemM m sub)
 unfolding subsystemBytes subsystemM
+subsystem-bytes m sub =
+    ap
+    (λ (n : ℕ).
+    field subsystemTag (subsystemValue (sub .period) (sub .budget) n) ++
+    flatMap taskField (upTo (taskAt m sub) (sub .count)))
+    (sym (count-of-tasks m sub))
+
+pub length-subsystem-field : (p q n : ℕ) → length (field subsystemTag (subsystemValue p q n)) ≡ fieldSize subsystemLength
+length-subsystem-field p q n =
+    length-field subsystemTag (subsystemValue p q n) ∙ ap fieldSize (length-subsystemValue p q n)
+
+pub length-subsystem-parts : (m : ℕ) (sub : Subsystem) → length (subsystemBytes (subsystemM m sub)) ≡ fieldSize subsystemLength + length (flatMap taskField (upTo (taskAt m sub) (sub .count)))
+length-subsystem-parts m sub =
+    rw (← subsystem-bytes m sub, length-append, length-subsystem-field (sub .period) (sub .budget) (sub .count)) refl
+
+pub length-subsystemBytes : (m : ℕ) (sub : Subsystem) → length (subsystemBytes (subsystemM m sub)) ≡ fieldSize subsystemLength + sub .count * fieldSize (taskLength m)
 length-subsystemBytes m sub =
-    rw (length-append, length-field, length-subsystemValue, length-first-tasks m sub (sub .count)) refl
+    length-subsystem-parts m sub ∙ ap (λ (k : ℕ). fieldSize subsystemLength + k) (length-first-tasks m sub (sub .count))
 
 pub length-header : (n m : ℕ) → length (field headerTag (headerValue n m)) ≡ fieldSize headerLength
 length-header n m = length-field headerTag (headerValue n m) ∙ ap fieldSize (length-headerValue n m)

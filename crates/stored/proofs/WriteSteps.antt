@@ -32,11 +32,11 @@ written-behind before done bytes buf part at n e f =
     let rest : drop at buf ≡ drop at before = ap (drop at) e ∙ drop-at done (drop (length done) before) at n ∙ ap (λ (k : ℕ). drop k before) n in
     let over : drop (length buf - at) (drop at buf) ≡ [] = drop-of-length-le (drop at buf) {i = length buf - at} (omega (arith, length-drop at buf)) in
     let put : part ≡ bytes ++ drop (length (done ++ bytes)) before =
-        f ∙
-        ap (λ (l : List ℕ). bytes ++ drop (length bytes) l) (part-to-the-end buf at ∙ rest) ∙
-        ap (λ (l : List ℕ). bytes ++ l)
-        (drop-drop (length bytes) at before ∙
-        ap (λ (k : ℕ). drop k before) (ap (λ (k : ℕ). k + length bytes) (sym n) ∙ sym (length-append done bytes)))
+    f ∙
+    ap (λ (l : List ℕ). bytes ++ drop (length bytes) l) (part-to-the-end buf at ∙ rest) ∙
+    ap (λ (l : List ℕ). bytes ++ l)
+    (drop-drop (length bytes) at before ∙
+    ap (λ (k : ℕ). drop k before) (ap (λ (k : ℕ). k + length bytes) (sym n) ∙ sym (length-append done bytes)))
     in
     ap₂ (λ (x y : List ℕ). x ++ y) start
     (ap₂ (λ (x y : List ℕ). x ++ y) put over ∙ append-nil (bytes ++ drop (length (done ++ bytes)) before)) ∙
@@ -145,11 +145,12 @@ module _ {A : Type 0} (g : A → List ℕ) (f : ℕ → A) (before : List ℕ) w
   module _ (n i at : ℕ) (buf : List ℕ) (below : i < n) (room : length (flatMap g (upTo f n)) ≤ length before) (put : IsPut (flatMap g (upTo f i)) before buf at) where
     element-has-room : length (flatMap g (upTo f i)) + length (g (f i)) ≤ length before
     element-has-room =
-        omega
-        (arith,
-        flatMap-grows g f (i + 1) n (omega arith),
-        ap length (flatMap-one-more g f i),
-        length-append (flatMap g (upTo f i)) (g (f i)))
+        omega (
+          arith,
+          flatMap-grows g f (i + 1) n (omega arith),
+          ap length (flatMap-one-more g f i),
+          length-append (flatMap g (upTo f i)) (g (f i)),
+        )
 
     pub list-starts-within : at ≤ length buf
     list-starts-within = free-starts-within before _ buf at put _ (length (g (f i))) refl element-has-room

@@ -1,8 +1,8 @@
 // The stored table: fields of bytes, the reader and the writer. Every function here is proved, and the crate assumes
 // nothing of its own. No public function has a `requires`.
 mod decode;
-mod read;
 mod put;
+mod read;
 
 use rules::Place;
 use table::Subsystem;

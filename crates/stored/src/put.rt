@@ -19,8 +19,8 @@ use crate::judge::SUBSYSTEM;
 use crate::judge::SUBSYSTEM_LENGTH;
 use crate::judge::TASK;
 use crate::judge::VERSION;
-use crate::number::put_number;
 use crate::number::NUMBER;
+use crate::number::put_number;
 use table::Subsystem;
 use table::Task;
 

@@ -16,11 +16,11 @@ use crate::decode::decode_subsystem;
 use crate::decode::decode_task;
 use crate::judge::START;
 use crate::judge::TASK;
-use crate::number::NUMBER;
 use crate::judge::judge;
 use crate::judge::judge_header;
 use crate::judge::judge_subsystem;
 use crate::judge::value;
+use crate::number::NUMBER;
 use table::Subsystem;
 use table::Table;
 

@@ -34,10 +34,11 @@ put-header-value-requires c κs = free-has-room (c .before .before .before .befo
 -- src/put.rt:51:5
 add-at : tie.Need-add-at
 add-at c =
-    omega
-    (arith,
-    end-within (c .before .before .before .before .before .before .before .before .before .args .free .now) _ (c .before .before .before .before .before .before .put-start .last .0) (c .before .before .before .before .before .before .put-start .result) (c .before .before .before .before .before .before .put-start .ensures) startSize headerLength (length-start 1 3) (c .before .before .before .before .before .before .before .before .before .pre) _ (c .before .before .put-header-value .last .0) (c .before .before .put-header-value .result) (c .before .before .put-header-value .ensures) (length-headerValue (c .before .before .before .before .before .before .before .before .before .args .n) (c .before .before .before .before .before .before .before .before .before .args .m)),
-    c .before .before .before .before .before .before .before .before .before .good .0 .0)
+    omega (
+      arith,
+      end-within (c .before .before .before .before .before .before .before .before .before .args .free .now) _ (c .before .before .before .before .before .before .put-start .last .0) (c .before .before .before .before .before .before .put-start .result) (c .before .before .before .before .before .before .put-start .ensures) startSize headerLength (length-start 1 3) (c .before .before .before .before .before .before .before .before .before .pre) _ (c .before .before .put-header-value .last .0) (c .before .before .put-header-value .result) (c .before .before .put-header-value .ensures) (length-headerValue (c .before .before .before .before .before .before .before .before .before .args .n) (c .before .before .before .before .before .before .before .before .before .args .m)),
+      c .before .before .before .before .before .before .before .before .before .good .0 .0,
+    )
 
 -- src/put.rt:46:1
 same-length : tie.Need-same-length

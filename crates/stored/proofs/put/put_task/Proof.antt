@@ -43,10 +43,11 @@ put-task-value-requires c κs = (c .before .before .before .before .before .befo
 -- src/put.rt:87:5
 add-at : tie.Need-add-at
 add-at c =
-    omega
-    (arith,
-    end-within (c .before .before .before .before .before .before .before .before .before .args .free .now) _ (c .before .before .before .before .before .before .put-start .last .0) (c .before .before .before .before .before .before .put-start .result) (c .before .before .before .before .before .before .put-start .ensures) startSize (taskLength (c .before .before .before .before .before .before .before .before .before .args .m)) (length-start 3 (taskLength (c .before .before .before .before .before .before .before .before .before .args .m))) (c .before .before .before .before .before .before .before .before .before .pre .1) _ (c .before .before .put-task-value .last .0) (c .before .before .put-task-value .result) (c .before .before .put-task-value .ensures) (length-task-value (c .before .before .before .before .before .before .before .before .before .args .m) (c .before .before .before .before .before .before .before .before .before .args .task)),
-    c .before .before .before .before .before .before .before .before .before .good .0 .0)
+    omega (
+      arith,
+      end-within (c .before .before .before .before .before .before .before .before .before .args .free .now) _ (c .before .before .before .before .before .before .put-start .last .0) (c .before .before .before .before .before .before .put-start .result) (c .before .before .before .before .before .before .put-start .ensures) startSize (taskLength (c .before .before .before .before .before .before .before .before .before .args .m)) (length-start 3 (taskLength (c .before .before .before .before .before .before .before .before .before .args .m))) (c .before .before .before .before .before .before .before .before .before .pre .1) _ (c .before .before .put-task-value .last .0) (c .before .before .put-task-value .result) (c .before .before .put-task-value .ensures) (length-task-value (c .before .before .before .before .before .before .before .before .before .args .m) (c .before .before .before .before .before .before .before .before .before .args .task)),
+      c .before .before .before .before .before .before .before .before .before .good .0 .0,
+    )
 
 -- src/put.rt:82:1
 same-length : tie.Need-same-length
