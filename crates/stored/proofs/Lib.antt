@@ -6,3 +6,4 @@ pub mod ReadTasks
 pub mod ReadSubsystems
 pub mod FileLaws
 pub mod WriteSteps
+pub mod CountLaws

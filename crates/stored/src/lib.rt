@@ -3,6 +3,7 @@
 mod decode;
 mod put;
 mod read;
+mod write;
 
 use rules::Place;
 use table::Subsystem;
