@@ -1,16 +1,19 @@
 -- Laws of outer ceilings: what a search for one may conclude at each subsystem, and where a ceiling lies. Assumes nothing.
 use Prim.Native.Nat.{ℕ, _+_, _-_, _≤_, _<_}
 use native.Mathlib.Nat.{sub-zero}
-use mathlib.Core.Path.{_≡_, sym, ap, _∙_}
-use mathlib.Core.Option.{Option}
+use native.Mathlib.Omega.{arith}
+use mathlib.Core.Path.{_≡_, refl, sym, ap, _∙_}
+use mathlib.Core.Option.{Option, none, some}
+use mathlib.Core.Logic.{⊎-elim}
 use lib.Dec.{ltb}
 use lib.ListN.{getD}
-use borrow.Author.Tests.{lt-ltb, le-ltb}
+use borrow.Author.Tests.{lt-ltb, le-ltb, ltb-false}
 use Rattle.lists.specs.Range.{firstSuch}
-use Rattle.lists.proofs.First.{firstSuch-here, firstSuch-next, firstSuch-over}
+use Rattle.lists.proofs.First.{firstSuch-here, firstSuch-next, firstSuch-over, firstSuch-means, firstSuch-none}
+use Rattle.lists.proofs.Over.{le-or-lt}
 use Rattle.global.specs.declared.Interfaces.{Interfaces}
-use Rattle.global.specs.Interfaces.{meaningOf}
-use Rattle.global.specs.Parts.{count}
+use Rattle.global.specs.Interfaces.{InterfacesM, meaningOf}
+use Rattle.global.specs.Parts.{count, holdingOf}
 use Rattle.global.specs.Blocking.{numberOr, accesses, outerCeiling}
 use Rattle.global.proofs.Slots.{slot, count-of, holding-of-slot}
 
@@ -47,3 +50,18 @@ module _ (g : Interfaces) (l : ℕ) where
   -- None at all: the last.
   pub ceiling-over : (s : ℕ) → g .count ≤ s → leftFrom g l s ≡ leftFrom g l 0 → g .count - 1 ≡ outerCeiling (meaningOf g) l
   ceiling-over s h e = sym (by-search (sym e ∙ firstSuch-over (accesses (meaningOf g) l) (g .count) s h))
+
+-- The ceiling of a resource that subsystem s accesses is at or before s.
+pub ceiling-at-most : (g : InterfacesM) (l s : ℕ) → s < count g → 0 < holdingOf g s l → outerCeiling g l ≤ s
+unfolding outerCeiling accesses
+ceiling-at-most g l s h u = go (firstSuch (accesses g l) (count g) 0) refl
+  where
+    go : (o : Option ℕ) → firstSuch (accesses g l) (count g) 0 ≡ o → numberOr (count g - 1) (firstSuch (accesses g l) (count g) 0) ≤ s
+    go (some x) e =
+        let i = firstSuch-means (accesses g l) (count g) 0 x e in
+        rw e
+        (⊎-elim (λ (q : x ≤ s). q)
+        (λ (q : s < x). absurd (omega (arith, ltb-false 0 (holdingOf g s l) (i .before s (omega arith) q))))
+        (le-or-lt x s))
+    go none e =
+        absurd (omega (arith, ltb-false 0 (holdingOf g s l) (firstSuch-none (accesses g l) (count g) 0 e s (omega arith) (omega arith))))

@@ -4,3 +4,7 @@ pub mod CeilingLaws
 pub mod CommonLaws
 pub mod MoreRange
 pub mod BlockingLaws
+pub mod ActiveLaws
+pub mod BudgetEndLaws
+pub mod JobEndLaws
+pub mod ViewLaws

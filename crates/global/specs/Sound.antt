@@ -2,12 +2,14 @@
 -- Assumes nothing.
 use Prim.Native.Nat.{ℕ, _+_, _^_, _≤_, _<_}
 use mathlib.Core.Path.{_≡_}
+use mathlib.Core.Option.{some}
 use lib.ListN.{length, getD}
 use Rattle.least.specs.Search.{Loads}
 use Rattle.table.specs.Limits.{most, largest}
 use Rattle.global.specs.Interfaces.{InterfacesM}
 use Rattle.global.specs.Parts.{count, periodOf, budgetOf, holding}
 use Rattle.global.specs.View.{View, resources, held, ceiling, cost}
+use Rattle.global.specs.Ends.{activePeriod, jobs}
 
 -- Interfaces of an admitted table: counts within the limit, 1 ≤ Q, and Q + X ≤ P ≤ 1,000,000.
 pub record Sound (g : InterfacesM) : Type 0 where
@@ -29,4 +31,10 @@ pub record Sound-view (v : View) : Type 0 where
   pub blocking-small : v .blocking < 2 ^ 20
   pub few-resources : resources v ≤ most
   pub same-resources : length (v .ceilings) ≡ resources v
-  pub ceiling-reaches : (l : ℕ) → 0 < held v l → ceiling v l ≤ v .place
+  pub ceiling-reaches : (l : ℕ) → l < resources v → 0 < held v l → ceiling v l ≤ v .place
+
+-- Job k is one of the jobs of the active period.
+pub record Counted (v : View) (k : ℕ) : Type 0 where
+  pub active : ℕ
+  pub is-active : activePeriod v ≡ some active
+  pub among : k < jobs v active
