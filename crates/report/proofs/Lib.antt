@@ -1,0 +1,2 @@
+-- Laws of interfaces taken from a table, and of the report.
+pub mod InterfaceLaws

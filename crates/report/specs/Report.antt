@@ -1,0 +1,68 @@
+-- Rows and the report, over what a table means (steps 5, 11 and 12 put together). Indices count from 0. Assumes nothing.
+use Prim.Native.Nat.{ℕ, _-_}
+use mathlib.Core.Bool.{Bool, true, false, _&&_}
+use lib.Dec.{eqb}
+use lib.ListN.{replicate}
+use Rattle.lists.specs.Range.{allTo, padded}
+use Rattle.table.specs.Limits.{most}
+use Rattle.table.specs.Meaning.{System}
+use Rattle.table.specs.Parts.{subsystemCount, subsystemOf}
+use Rattle.rules.specs.declared.Judged.{Judged}
+use Rattle.rules.specs.declared.Judged.the-variants.{Admitted, Refused}
+use Rattle.rules.specs.Rules.{judgeOf}
+use Rattle.local.specs.Passing.{firstFailing, budgetEnd}
+use Rattle.global.specs.declared.Outcome.{Outcome}
+use Rattle.global.specs.declared.Outcome.the-variants.{Fits, Late, None}
+use Rattle.global.specs.declared.Row.{Row}
+use Rattle.global.specs.Row.{rowOf}
+use Rattle.report.specs.declared.Report.{Report}
+use Rattle.report.specs.Interfaces.{interfacesFrom}
+
+-- The first failing task of subsystem s, 0 if none, with E = P − X.
+unfoldable pub failingAt : System → ℕ → ℕ
+failingAt sys s = firstFailing (sys .resources) (subsystemOf sys s) (budgetEnd (sys .resources) (subsystemOf sys s))
+
+-- The row of subsystem s.
+unfoldable pub rowAt : System → ℕ → Row
+rowAt sys s = rowOf (interfacesFrom sys) s (failingAt sys s)
+
+-- Whether a row fits.
+abbrev pub fits : Outcome → Bool
+fits (Fits r) = true
+fits (Late r) = false
+fits None = false
+
+-- Whether every task of the row's subsystem passes and the row fits.
+unfoldable pub rowAccepted : Row → Bool
+rowAccepted row = eqb (row .failing) 0 && fits (row .outcome)
+
+unfoldable pub acceptedAt : System → ℕ → Bool
+acceptedAt sys s = rowAccepted (rowAt sys s)
+
+-- Step 12. Accepted: every task passes and every row fits.
+unfoldable pub accepted : System → Bool
+accepted sys = allTo (acceptedAt sys) (subsystemCount sys)
+
+-- The row that stands past N, and everywhere in a refused report: zero, with outcome none.
+abbrev pub noRow : Row
+noRow =
+    record {
+      holding = 0;
+      failing = 0;
+      blocking = 0;
+      active = 0;
+      jobs = 0;
+      job = 0;
+      resource = 0;
+      outcome = None;
+    }
+
+-- The report of a system that was judged so.
+abbrev pub reportFor : Judged → System → Report
+reportFor (Refused k p) sys = record { judged = Refused k p; accepted = false; rows = replicate most noRow }
+reportFor Admitted sys =
+    record { judged = Admitted; accepted = accepted sys; rows = padded (rowAt sys) noRow most (subsystemCount sys) }
+
+-- The report of a system: refused with number and place and no figure, or its rows by subsystem.
+unfoldable pub reportOf : System → Report
+reportOf sys = reportFor (judgeOf sys) sys

@@ -1,0 +1,56 @@
+// The interfaces of an admitted table: what the other subsystems see of each.
+ghost use mathlib.Core.Path.{_≡_};
+ghost use Prim.Native.Nat.{_≤_, _<_, _^_};
+ghost use Rattle.table.specs.Meaning.{meaning, subsystemM};
+ghost use Rattle.rules.specs.Admitted.{SoundSubsystem, SoundSystem};
+ghost use Rattle.global.specs.Interfaces.{interfaceM, meaningOf};
+ghost use Rattle.report.specs.Interfaces.{interfaceFrom, interfacesFrom};
+ghost use Rattle.report.specs.Slots.{SoundSlot};
+use global::Interface;
+use global::Interfaces;
+use table::Subsystem;
+use table::Table;
+
+// The interface of one subsystem.
+pub fn interface_of(sub: Subsystem, m: usize) -> Interface
+    requires { ⌜ SoundSlot sub m ⌝ }
+    ensures { λ r. ⌜ interfaceM m r ≡ interfaceFrom m (subsystemM m sub) ⌝ }
+{
+    let mut holding = [0u32; Table::MOST];
+    let mut l = 0;
+    while l < m {
+        holding[l] = rules::holding::resource_holding(sub, m, l) as u32;
+        l += 1;
+    }
+    Interface {
+        period: sub.period,
+        budget: sub.budget,
+        holding: holding,
+    }
+}
+
+// The interfaces of all subsystems.
+pub fn interfaces_of(t: Table) -> Interfaces
+    requires { ⌜ SoundSystem (meaning t) ⌝ }
+    ensures { λ r. ⌜ meaningOf r ≡ interfacesFrom (meaning t) ⌝ }
+{
+    let n = numbers::index(t.count);
+    let m = numbers::index(t.resources);
+    let none = Interface {
+        period: 0,
+        budget: 0,
+        holding: [0; Table::MOST],
+    };
+    let mut interfaces = [none; Table::MOST];
+    let mut s = 0;
+    while s < n {
+        let sub = t.subsystems[s];
+        interfaces[s] = interface_of(sub, m);
+        s += 1;
+    }
+    Interfaces {
+        count: n,
+        resources: m,
+        interfaces: interfaces,
+    }
+}
