@@ -1,6 +1,6 @@
 -- Laws of the list of all, and of that list filled up to a length. Assumes nothing.
-use Prim.Native.Nat.{ℕ, zero, suc, _+_, _-_, _≤_, _<_}
-use native.Mathlib.Nat.{eq-or-lt-of-le, sub-zero}
+use Prim.Native.Nat.{ℕ, zero, suc, _+_, _-_, _*_, _≤_, _<_}
+use native.Mathlib.Nat.{eq-or-lt-of-le, sub-zero, suc-mul}
 use native.Mathlib.Numerals.{add-one}
 use native.Mathlib.Omega.{arith}
 use mathlib.Core.Path.{_≡_, refl, sym, ap, ap₂, _∙_}
@@ -8,7 +8,7 @@ use mathlib.Core.Logic.{_⊎_, ⊎-elim}
 use mathlib.Core.List.{List, [], _∷_, _++_, append-assoc}
 use lib.ListN.{length, getD, set, replicate, length-append, length-replicate, List·getD-append}
 use lib.Seq.{getD-at, set-at}
-use Rattle.lists.specs.Range.{upTo, padded}
+use Rattle.lists.specs.Range.{upTo, joinTo, padded}
 
 module _ {A : Type 0} where
   pub length-upTo : (f : ℕ → A) (n : ℕ) → length (upTo f n) ≡ n
@@ -52,3 +52,25 @@ module _ {A : Type 0} where
   unfolding padded
   getD-padded f d z most n i h =
       List·getD-append (upTo f n) (replicate (most - n) d) z i (omega (arith, length-upTo f n)) ∙ getD-upTo f n i z h
+
+  pub joinTo-zero : (f : ℕ → List A) → joinTo f 0 ≡ []
+  unfolding joinTo
+  joinTo-zero f = refl
+
+  pub joinTo-suc : (f : ℕ → List A) (n : ℕ) → joinTo f (n + 1) ≡ joinTo f n ++ f n
+  unfolding joinTo
+  joinTo-suc f n = rw add-one refl
+
+  -- Only what f gives within the range matters.
+  pub joinTo-ext : (f g : ℕ → List A) (n : ℕ) → ((i : ℕ) → i < n → f i ≡ g i) → joinTo f n ≡ joinTo g n
+  unfolding joinTo
+  joinTo-ext f g zero h = refl
+  joinTo-ext f g (suc n) h = ap₂ _++_ (joinTo-ext f g n (λ i l. h i (omega arith))) (h n (omega arith))
+
+  -- n lists of at most b elements each.
+  pub joinTo-at-most : (f : ℕ → List A) (n b : ℕ) → ((i : ℕ) → i < n → length (f i) ≤ b) → length (joinTo f n) ≤ n * b
+  unfolding joinTo
+  joinTo-at-most f zero b h = omega arith
+  joinTo-at-most f (suc n) b h =
+      rw suc-mul
+      (simp length-append (omega (arith, joinTo-at-most f n b (λ i l. h i (omega arith)), h n (omega arith))))

@@ -39,7 +39,12 @@ module _ {A : Type 0} where
   upTo f zero = []
   upTo f (suc n) = upTo f n ++ (f n ∷ [])
 
-  -- The same list, filled up with d to a length of `most`.
+  -- The lists f 0, f 1, …, f (n − 1), joined.
+  unfoldable pub joinTo : (ℕ → List A) → ℕ → List A
+  joinTo f zero = []
+  joinTo f (suc n) = joinTo f n ++ f n
+
+  -- The list of all, filled up with d to a length of `most`.
   unfoldable pub padded : (ℕ → A) → A → ℕ → ℕ → List A
   padded f d most n = upTo f n ++ replicate (most - n) d
 
