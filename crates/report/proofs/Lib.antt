@@ -1,2 +1,3 @@
 -- Laws of interfaces taken from a table, and of the report.
 pub mod InterfaceLaws
+pub mod SoundLaws

@@ -1,0 +1,2 @@
+-- Laws of writing one thing behind another.
+pub mod WroteLaws
