@@ -1,2 +1,3 @@
--- Laws of writing one thing behind another.
+-- Laws of writing one thing behind another, and of the lines.
 pub mod WroteLaws
+pub mod LineLaws

@@ -11,13 +11,13 @@ use Rattle.text.specs.Wrote.{Wrote}
 
 -- What was written behind what was written is both.
 pub wrote-then :
-  {b xs mid ys out : List ℕ} {at r r′ : ℕ} → at + length xs ≤ length b → Wrote b at xs mid r → Wrote mid r ys out r′ →
-  Wrote b at (xs ++ ys) out r′
+    {b xs mid ys out : List ℕ} {at r r′ : ℕ} → at + length xs ≤ length b → Wrote b at xs mid r → Wrote mid r ys out r′ →
+    Wrote b at (xs ++ ys) out r′
 wrote-then {b} {xs} {mid} {ys} {out} {at} {r} {r′} room w v =
     record {
       place = v .place ∙ ap (λ (k : ℕ). k + length ys) (w .place) ∙ add-assoc at (length xs) (length ys) ∙ ap (λ (k : ℕ). at + k) (sym (length-append xs ys));
       holds =
-        v .holds ∙ ap₂ (λ (m : List ℕ) (k : ℕ). written m k ys) (w .holds) (w .place) ∙ written-then b at xs ys room
+          v .holds ∙ ap₂ (λ (m : List ℕ) (k : ℕ). written m k ys) (w .holds) (w .place) ∙ written-then b at xs ys room;
     }
 
 -- The same from the two facts that a function gives.
@@ -35,3 +35,30 @@ wrote-nothing b at = record { place = omega arith; holds = sym (written-nothing 
 -- Equal bytes were written.
 pub wrote-same : {b xs ys out : List ℕ} {at r : ℕ} → xs ≡ ys → Wrote b at xs out r → Wrote b at ys out r
 wrote-same e w = rw e at w
+
+------------------------------------------------------------------------
+-- A run of writes, with a bound on what it has written so far
+
+pub record Run (b : List ℕ) (at k : ℕ) (xs out : List ℕ) (r : ℕ) : Type 0 where
+  pub writes : Wrote b at xs out r
+  pub small : length xs ≤ k
+
+-- One write more.
+pub run-on :
+    {b xs mid ys out : List ℕ} {at k j r r′ : ℕ} → at + k ≤ length b → Run b at k xs mid r → length ys ≤ j → Wrote mid r ys out r′ →
+    Run b at (k + j) (xs ++ ys) out r′
+run-on {b} {xs} {mid} {ys} {out} {at} {k} {j} {r} {r′} room w l v =
+    record {
+      writes = wrote-then (omega (arith, w .small)) (w .writes) v;
+      small = simp length-append (omega (arith, w .small));
+    }
+
+-- What a run leaves free.
+pub run-room :
+    {b xs mid : List ℕ} {at k r : ℕ} (j : ℕ) → at + k + j ≤ length b → Run b at k xs mid r → r + j ≤ length mid
+run-room {b} {xs} {mid} {at} {k} {r} j room w =
+    omega (arith, w .small, w .writes .place, wrote-length (omega (arith, w .small)) (w .writes))
+
+-- A run leaves the buffer as long as it was.
+pub run-length : {b xs out : List ℕ} {at k r : ℕ} → at + k ≤ length b → Run b at k xs out r → length out ≡ length b
+run-length room w = wrote-length (omega (arith, w .small)) (w .writes)

@@ -35,16 +35,22 @@ outcomeWord (Late r) = word " late\n"
 outcomeWord None = word " none\n"
 
 -- The line of the subsystem at index s, counted from 1: index, X, first failing task, B, L, jobs, R, its job, its resource,
--- outcome.
-unfoldable pub rowLine : ℕ → Row → List ℕ
-rowLine s row =
+-- outcome. The first five are known before any job is; the others speak of the jobs.
+unfoldable pub rowStart : ℕ → Row → List ℕ
+rowStart s row =
     decimal (s + 1) ++
     figure " X " (row .holding) ++
     figure " local " (row .failing) ++
     figure " B " (row .blocking) ++
-    figure " L " (row .active) ++
+    figure " L " (row .active)
+
+unfoldable pub rowEnd : Row → List ℕ
+rowEnd row =
     figure " jobs " (row .jobs) ++
     figure " R " (reported (row .outcome)) ++
     figure " job " (row .job) ++
     figure " res " (row .resource) ++
     outcomeWord (row .outcome)
+
+unfoldable pub rowLine : ℕ → Row → List ℕ
+rowLine s row = rowStart s row ++ rowEnd row

@@ -1,5 +1,9 @@
 use native.Mathlib.Omega.{arith}
+use mathlib.Core.Path.{sym, ap}
 use borrow.Author.Needs.{needs}
+use Rattle.lines.specs.Words.{word}
+use Rattle.text.specs.Lines.{outcomeWord}
+use Rattle.text.proofs.WroteLaws.{wrote, wrote-same}
 use Rattle.text.proofs.line.put_outcome.Statement.{statement}
 use Rattle.text.proofs.line.put_outcome.Tie as tie
 use Rattle.text.proofs.line.put_outcome.Reads as reads
@@ -48,7 +52,10 @@ same-length c = search needs
 
 -- src/line.rt:27:1
 returns : tie.Need-returns
-returns c = ?
+unfolding word
+returns c =
+    wrote-same (sym (ap outcomeWord (c .before .before .before .before .before .enum-told .given .1)))
+    (wrote (c .before .before .put-bytes .ensures))
 
 -- src/line.rt:27:1
 same-length-2 : tie.Need-same-length-2
@@ -56,7 +63,10 @@ same-length-2 c = search needs
 
 -- src/line.rt:27:1
 returns-2 : tie.Need-returns-2
-returns-2 c = ?
+unfolding word
+returns-2 c =
+    wrote-same (sym (ap outcomeWord (c .before .before .before .before .before .enum-told2 .given .1)))
+    (wrote (c .before .before .put-bytes2 .ensures))
 
 -- src/line.rt:27:1
 same-length-3 : tie.Need-same-length-3
@@ -64,7 +74,10 @@ same-length-3 c = search needs
 
 -- src/line.rt:27:1
 returns-3 : tie.Need-returns-3
-returns-3 c = ?
+unfolding word
+returns-3 c =
+    wrote-same (sym (ap outcomeWord (c .before .before .before .before .before .enum-told3 .given .1)))
+    (wrote (c .before .before .put-bytes3 .ensures))
 
 pub put-outcome-spec : {M : Type 1} → statement M
 put-outcome-spec =
