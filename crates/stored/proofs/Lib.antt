@@ -1,0 +1,8 @@
+-- Laws of the definitions in specs/, by subject.
+pub mod Numbers
+pub mod Judging
+pub mod Decoding
+pub mod ReadTasks
+pub mod ReadSubsystems
+pub mod FileLaws
+pub mod WriteSteps
