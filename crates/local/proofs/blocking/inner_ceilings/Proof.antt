@@ -1,0 +1,62 @@
+-- `local::blocking::inner_ceilings` gives the inner ceilings: those below l are stored. Assumes nothing.
+use Prim.Native.Nat.{ℕ, _≤_, _-_}
+use mathlib.Core.Path.{_≡_, sym, ap, ap₂, _∙_}
+use Rattle.lists.specs.Range.{padded}
+use Rattle.lists.proofs.UpTo.{padded-none}
+use Rattle.table.specs.Limits.{most}
+use Rattle.table.specs.Meaning.{subsystemM}
+use Rattle.rules.specs.Holding.{innerCeiling}
+use Rattle.local.proofs.Filling.{padded-turn}
+use borrow.Author.Needs.{needs}
+use native.Mathlib.Omega.{arith}
+use Rattle.local.proofs.blocking.inner_ceilings.Statement.{statement}
+use Rattle.local.proofs.blocking.inner_ceilings.Tie as tie
+
+abbrev Inv-loop : tie.InvT-loop
+Inv-loop sub m ceilings₀ l₀ ceilings l =
+    (ceilings ≡ padded (innerCeiling (subsystemM m sub)) 0 most l) × (l ≤ m)
+
+abbrev μ-loop : tie.MeasureT-loop
+μ-loop sub m ceilings₀ l₀ ceilings l = m - l
+
+loop-holds : tie.Need-loop-holds Inv-loop μ-loop
+loop-holds c = (sym (padded-none (innerCeiling _) 0 most), search needs)
+
+inner-ceiling-requires : tie.Need-inner-ceiling-requires Inv-loop μ-loop
+inner-ceiling-requires c κs = search needs
+
+mul-ceilings : tie.Need-mul-ceilings Inv-loop μ-loop
+mul-ceilings c = search needs
+
+array-write-ceilings : tie.Need-array-write-ceilings Inv-loop μ-loop
+array-write-ceilings c = search needs
+
+add-l : tie.Need-add-l Inv-loop μ-loop
+add-l c = search needs
+
+loop-less : tie.Need-loop-less Inv-loop μ-loop
+loop-less c = search needs
+
+loop-again : tie.Need-loop-again Inv-loop μ-loop
+loop-again c = (
+  padded-turn _ _ _ _ (omega arith) _ _ (c .before .before .loop .inv .0) (c .inner-ceiling .ensures),
+  search needs,
+)
+
+returns : tie.Need-returns Inv-loop μ-loop
+returns c = let all : c .before .loop .l ≡ c .before .before .args .m = omega arith in c .before .loop .inv .0 ∙ ap (padded _ 0 most) all
+
+pub inner-ceilings-spec : {M : Type 1} → statement M
+inner-ceilings-spec =
+    tie.close
+    (tie.spec
+    Inv-loop
+    μ-loop
+    loop-holds
+    inner-ceiling-requires
+    mul-ceilings
+    array-write-ceilings
+    add-l
+    loop-less
+    loop-again
+    returns)

@@ -1,0 +1,69 @@
+-- `local::separations_of` gives the separations in use: those below j are stored. Assumes nothing.
+use Prim.Native.Nat.{ℕ, _≤_, _-_}
+use mathlib.Core.Path.{_≡_, refl, sym, ap, _∙_}
+use Rattle.lists.specs.Range.{padded}
+use Rattle.lists.proofs.UpTo.{padded-none}
+use Rattle.table.specs.Limits.{most}
+use Rattle.local.specs.Ready.{separationAt}
+use Rattle.local.proofs.Filling.{padded-turn}
+use borrow.Author.Needs.{needs}
+use native.Mathlib.Omega.{arith}
+use Rattle.local.proofs.separations_of.Statement.{statement}
+use Rattle.local.proofs.separations_of.Tie as tie
+
+abbrev Inv-loop : tie.InvT-loop
+Inv-loop sub n separations₀ j₀ separations j =
+    (separations ≡ padded (separationAt sub) 0 most j) × (j ≤ n) × (n ≡ sub .count)
+
+abbrev μ-loop : tie.MeasureT-loop
+μ-loop sub n separations₀ j₀ separations j = n - j
+
+index-requires : tie.Need-index-requires Inv-loop μ-loop
+index-requires c κs = search needs
+
+loop-holds : tie.Need-loop-holds Inv-loop μ-loop
+loop-holds c = (sym (padded-none _ 0 most), search needs, search needs)
+
+mul-task : tie.Need-mul-task Inv-loop μ-loop
+mul-task c = search needs
+
+element-copy-out-task : tie.Need-element-copy-out-task Inv-loop μ-loop
+element-copy-out-task c = search needs
+
+mul-separations : tie.Need-mul-separations Inv-loop μ-loop
+mul-separations c = search needs
+
+array-write-separations : tie.Need-array-write-separations Inv-loop μ-loop
+array-write-separations c = search needs
+
+add-j : tie.Need-add-j Inv-loop μ-loop
+add-j c = search needs
+
+loop-less : tie.Need-loop-less Inv-loop μ-loop
+loop-less c = search needs
+
+loop-again : tie.Need-loop-again Inv-loop μ-loop
+unfolding separationAt
+loop-again c = (padded-turn _ _ _ _ (omega arith) _ _ (c .before .before .loop .inv .0) refl, search needs, search needs)
+
+returns : tie.Need-returns Inv-loop μ-loop
+returns c =
+    let all : c .before .loop .j ≡ c .before .before .before .args .t1 .count = omega arith in
+    c .before .loop .inv .0 ∙ ap (padded _ 0 most) all
+
+pub separations-of-spec : {M : Type 1} → statement M
+separations-of-spec =
+    tie.close
+    (tie.spec
+    Inv-loop
+    μ-loop
+    index-requires
+    loop-holds
+    mul-task
+    element-copy-out-task
+    mul-separations
+    array-write-separations
+    add-j
+    loop-less
+    loop-again
+    returns)
