@@ -26,22 +26,24 @@ blocking-by-one-above u i l j h = rw (le-ltb i j h) refl
 
 blocking-under-ceiling : (u : SubsystemM) (i l j : ℕ) → i < innerCeiling u l → blockingAccess u i l j ≡ 0
 unfolding blockingAccess canBlock
-blocking-under-ceiling u i l j h = rw (lt-leb (innerCeiling u l) i h) (go (ltb i j) (uses u l j))
+blocking-under-ceiling u i l j h = rw (lt-leb (innerCeiling u l) i h) (never (ltb i j) (uses u l j) _)
   where
-    go : (a b : Bool) → cond (a && b && false) (accessOf (taskOf u j) l) 0 ≡ 0
-    go true true = refl
-    go true false = refl
-    go false b = refl
+    never : (a b : Bool) (c : ℕ) → cond (a && b && false) c 0 ≡ 0
+    never true true c = refl
+    never true false c = refl
+    never false b c = refl
 
 -- Any other access counts by its own length; one of 0 adds nothing.
 blocking-by-one-below : (u : SubsystemM) (i l j : ℕ) → i < j → innerCeiling u l ≤ i → blockingAccess u i l j ≡ accessOf (taskOf u j) l
 unfolding blockingAccess canBlock uses
-blocking-by-one-below u i l j h k =
-    rw (lt-ltb i j h, le-leb (innerCeiling u l) i k) (go (ltb 0 (accessOf (taskOf u j) l)) refl)
+blocking-by-one-below u i l j h k = rw (lt-ltb i j h, le-leb (innerCeiling u l) i k) (counted (accessOf (taskOf u j) l))
   where
-    go : (b : Bool) → ltb 0 (accessOf (taskOf u j) l) ≡ b → cond (b && true) (accessOf (taskOf u j) l) 0 ≡ accessOf (taskOf u j) l
-    go true e = refl
-    go false e = let none : accessOf (taskOf u j) l ≤ 0 = ltb-false _ _ e in omega arith
+    counted : (c : ℕ) → cond (ltb 0 c && true) c 0 ≡ c
+    counted c = go (ltb 0 c) refl
+      where
+        go : (b : Bool) → ltb 0 c ≡ b → cond (b && true) c 0 ≡ c
+        go true e = refl
+        go false e = let none : c ≤ 0 = ltb-false _ _ e in omega arith
 
 nothing-above-zero : (f : ℕ → ℕ) (n : ℕ) → ((j : ℕ) → j < n → f j ≡ 0) → largestTo f n ≡ 0
 nothing-above-zero f n h = omega (arith, largest-at-most f n 0 (λ j l. omega (arith, h j l)))

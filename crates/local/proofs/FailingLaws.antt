@@ -22,14 +22,20 @@ module _ (m : ℕ) (sub : Subsystem) (end : ℕ) where
   unfolding FailingFrom firstFailing
   failing-from-zero = rw (count-of-tasks m sub, sub-zero) refl
 
-  pub failing-here : (i : ℕ) → i < sub .count → false ≡ taskPasses m (subsystemM m sub) end i → FailingFrom i → i + 1 ≡ firstFailing m (subsystemM m sub) end
+  -- What the turn at i found, whether its task passes, and what the test of that said.
+  pub failing-here :
+      (i : ℕ) → i < sub .count → (passed : Bool) → passed ≡ taskPasses m (subsystemM m sub) end i → not passed ≡ true → FailingFrom i →
+      i + 1 ≡ firstFailing m (subsystemM m sub) end
   unfolding FailingFrom taskFails
-  failing-here i h e f =
-      sym (f ∙ ap figure (firstSuch-here (taskFails m (subsystemM m sub) end) (sub .count) i h (ap not (sym e))))
+  failing-here i h passed e t f =
+      sym (f ∙ ap figure (firstSuch-here (taskFails m (subsystemM m sub) end) (sub .count) i h (ap not (sym e) ∙ t)))
 
-  pub failing-next : (i : ℕ) → i < sub .count → true ≡ taskPasses m (subsystemM m sub) end i → FailingFrom i → FailingFrom (i + 1)
+  pub failing-next :
+      (i : ℕ) → i < sub .count → (passed : Bool) → passed ≡ taskPasses m (subsystemM m sub) end i → not passed ≡ false → FailingFrom i →
+      FailingFrom (i + 1)
   unfolding FailingFrom taskFails
-  failing-next i h e f = f ∙ ap figure (firstSuch-next (taskFails m (subsystemM m sub) end) (sub .count) i h (ap not (sym e)))
+  failing-next i h passed e t f =
+      f ∙ ap figure (firstSuch-next (taskFails m (subsystemM m sub) end) (sub .count) i h (ap not (sym e) ∙ t))
 
   pub failing-over : (i : ℕ) → sub .count ≤ i → FailingFrom i → 0 ≡ firstFailing m (subsystemM m sub) end
   unfolding FailingFrom

@@ -4,4 +4,5 @@ pub mod BlockingLaws
 pub mod PassingLaws
 pub mod TaskLaws
 pub mod FailingLaws
+pub mod ReadyLaws
 pub mod Demand3

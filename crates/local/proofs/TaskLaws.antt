@@ -87,7 +87,7 @@ module _ (m : ℕ) (sub : Subsystem) (sound : SoundSubsystem m (subsystemM m sub
     asked-is-load : (x j : ℕ) → j < sub .count → askedBy (subsystemM m sub) x j ≡ loadIn separations works x j
     unfolding askedBy loadIn
     asked-is-load x j h =
-        rw (separation-in-slot m sub j h, work-in-slot m sub j h, separation-read j h, work-read j h)
+        rw (separation-in-slot m sub j h, work-in-slot m sub j h, separation-read j h, work-read j h) refl
 
     need-is-total :
         (i : ℕ) → i < sub .count → (constant : ℕ) → constant ≡ taskBlocking m (subsystemM m sub) i + workAt sub i → (x : ℕ) →

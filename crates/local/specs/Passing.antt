@@ -1,4 +1,4 @@
--- Step 5: a task's need, passing, and the first failing task, over what one subsystem means and its budget end E.
+-- Step 5: a task's need, passing, and the first failing task, over what one subsystem means and its giving end E.
 -- Tasks count from 0 here; the figure for a failing task counts from 1. Assumes nothing.
 use Prim.Native.Nat.{ℕ, _+_, _-_, _*_}
 use mathlib.Core.Bool.{Bool, true, false, not}
@@ -54,6 +54,6 @@ figure none = 0
 unfoldable pub firstFailing : ℕ → SubsystemM → ℕ → ℕ
 firstFailing m u E = figure (firstSuch (taskFails m u E) (taskCount u) 0)
 
--- The budget end: the period less the overrun's share, E = P − X.
-unfoldable pub budgetEnd : ℕ → SubsystemM → ℕ
-budgetEnd m u = u .period - holding m u
+-- The giving end: the period less the overrun's share, E = P − X.
+unfoldable pub givingEnd : ℕ → SubsystemM → ℕ
+givingEnd m u = u .period - holding m u

@@ -11,7 +11,7 @@ use Rattle.rules.specs.Admitted.{SoundSubsystem}
 use Rattle.rules.specs.Holding.{innerCeiling}
 use Rattle.local.specs.declared.Share.{Share}
 
--- A budget of at least one tick within its end, and the end within the period.
+-- A budget of at least one tick, given among the first `end` ticks of a period.
 pub record Sharing (share : Share) : Type 0 where
   pub budget-least : 1 ≤ share .budget
   pub budget-by-end : share .budget ≤ share .end
@@ -37,7 +37,7 @@ pub record TakenOut (sub : Subsystem) (m : ℕ) (ceilings separations works : Li
   pub separations-are : separations ≡ padded (separationAt sub) 0 most (sub .count)
   pub works-are : works ≡ padded (workAt sub) 0 most (sub .count)
 
--- A subsystem of an admitted table, with the end of its budget.
+-- A subsystem of an admitted table, with its giving end.
 pub record Ready (sub : Subsystem) (m end : ℕ) : Type 0 where
   pub sound : SoundSubsystem m (subsystemM m sub)
   pub resources-most : m ≤ most

@@ -1,4 +1,5 @@
-// Step 3: how long a task below can hold up a task, by the accesses themselves. Ceilings are worked out once for all tasks.
+// Step 3: how long a task below can hold up a task, by the accesses themselves. The ceilings are worked out once for all
+// tasks. Every function here is proved, and the file assumes nothing.
 ghost use mathlib.Core.Path.{_≡_};
 ghost use Prim.Native.Nat.{_≤_, _<_};
 ghost use Rattle.lists.specs.Range.{padded};

@@ -13,7 +13,7 @@ use table::Table;
 pub mod blocking;
 pub mod passing;
 
-// What a subsystem shares out: a budget in each period, given before the budget's end.
+// What a subsystem shares out: a budget in each period, given among the period's first `end` ticks.
 pub struct Share {
     pub period: u32,
     pub budget: u32,
@@ -77,8 +77,8 @@ fn task_passes(
     passing::held_within(separations, works, i, constant, task.deadline, share)
 }
 
-// The first failing task of a subsystem with m resources in use, whose budget ends at `end` in its period: 1 for the
-// first task, 0 where every task passes.
+// The first failing task of a subsystem with m resources in use, whose budget is given among a period's first `end`
+// ticks: 1 for the first task, 0 where every task passes.
 pub fn first_failing_task(sub: Subsystem, m: usize, end: u32) -> u8
     requires { ⌜ Ready sub m end ⌝ }
     ensures { λ r. ⌜ r ≡ firstFailing m (subsystemM m sub) end ⌝ }

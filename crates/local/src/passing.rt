@@ -1,5 +1,6 @@
 // Step 5 on plain numbers: whether some window of at most the deadline is sure to hold a task's need. The tasks above come
-// as a slice of separations and a slice of works, of which the first i count.
+// as a slice of separations and a slice of works, of which the first i count. Every function here is proved, and the file
+// assumes nothing.
 ghost use mathlib.Core.Path.{_≡_};
 ghost use Prim.Native.Nat.{_+_, _≤_, _<_, _^_, min};
 ghost use Rattle.least.specs.Demand.{total};

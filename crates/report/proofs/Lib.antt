@@ -1,3 +1,4 @@
 -- Laws of interfaces taken from a table, and of the report.
 pub mod InterfaceLaws
 pub mod SoundLaws
+pub mod AcceptedLaws

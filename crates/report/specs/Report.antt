@@ -2,7 +2,8 @@
 use Prim.Native.Nat.{ℕ, _-_}
 use mathlib.Core.Bool.{Bool, true, false, _&&_}
 use lib.Dec.{eqb}
-use lib.ListN.{replicate}
+use mathlib.Core.List.{List}
+use lib.ListN.{getD, replicate}
 use Rattle.lists.specs.Range.{allTo, padded}
 use Rattle.table.specs.Limits.{most}
 use Rattle.table.specs.Meaning.{System}
@@ -10,7 +11,7 @@ use Rattle.table.specs.Parts.{subsystemCount, subsystemOf}
 use Rattle.rules.specs.declared.Judged.{Judged}
 use Rattle.rules.specs.declared.Judged.the-variants.{Admitted, Refused}
 use Rattle.rules.specs.Rules.{judgeOf}
-use Rattle.local.specs.Passing.{firstFailing, budgetEnd}
+use Rattle.local.specs.Passing.{firstFailing, givingEnd}
 use Rattle.global.specs.declared.Outcome.{Outcome}
 use Rattle.global.specs.declared.Outcome.the-variants.{Fits, Late, None}
 use Rattle.global.specs.declared.Row.{Row}
@@ -20,7 +21,7 @@ use Rattle.report.specs.Interfaces.{interfacesFrom}
 
 -- The first failing task of subsystem s, 0 if none, with E = P − X.
 unfoldable pub failingAt : System → ℕ → ℕ
-failingAt sys s = firstFailing (sys .resources) (subsystemOf sys s) (budgetEnd (sys .resources) (subsystemOf sys s))
+failingAt sys s = firstFailing (sys .resources) (subsystemOf sys s) (givingEnd (sys .resources) (subsystemOf sys s))
 
 -- The row of subsystem s.
 unfoldable pub rowAt : System → ℕ → Row
@@ -56,6 +57,24 @@ noRow =
       resource = 0;
       outcome = None;
     }
+
+-- What stands past the end of an array of rows. No count reaches there.
+abbrev pub pastRows : Row
+pastRows =
+    record {
+      holding = 0;
+      failing = 0;
+      blocking = 0;
+      active = 0;
+      jobs = 0;
+      job = 0;
+      resource = 0;
+      outcome = Fits 0;
+    }
+
+-- Whether the row in a slot is accepted.
+unfoldable pub slotAccepted : List Row → ℕ → Bool
+slotAccepted rows s = rowAccepted (getD rows s pastRows)
 
 -- The report of a system that was judged so.
 abbrev pub reportFor : Judged → System → Report

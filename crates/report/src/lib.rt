@@ -1,10 +1,15 @@
 // The report of any table: the judgement, a row for each subsystem, and acceptance. `analyse` has no `requires`. Every
 // function here is proved, and the crate assumes nothing of its own.
+ghost use mathlib.Core.Path.{_≡_};
+ghost use Rattle.table.specs.Meaning.{meaning};
+ghost use Rattle.report.specs.Report.{reportOf};
 use global::Row;
 use rules::Judged;
 use table::Table;
 
-mod interface;
+pub mod accepting;
+pub mod interface;
+pub mod rows;
 
 // The report: the judgement, whether the table is accepted, and eight rows. Where the table is refused, and past its
 // subsystems, rows are zero with outcome none.
@@ -13,3 +18,4 @@ pub struct Report {
     pub accepted: bool,
     pub rows: [Row; Table::MOST],
 }
+

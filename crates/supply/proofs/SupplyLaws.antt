@@ -1,4 +1,4 @@
--- How the supply moves with the window, the budget and the budget end. Assumes nothing.
+-- How the supply moves with the window, the budget and the giving end. Assumes nothing.
 use Prim.Native.Nat.{ℕ, suc, _+_, _-_, _*_, _/_, _≤_, _<_}
 use mathlib.Core.Path.{_≡_, ap}
 use mathlib.Core.Logic.{⊎-elim}
@@ -57,7 +57,7 @@ module _ (P Q E : ℕ) (pos : 1 ≤ Q) (qe : Q ≤ E) (ep : E ≤ P) where
   pub supply-within-window : (x : ℕ) → supply P Q E x ≤ x
   supply-within-window x = omega (arith, supply-rises-slowly {x = 0} {y = x} (omega arith), supply-of-no-tick)
 
-  -- A later budget end, with the same budget, holds no more.
+  -- A later giving end, with the same budget, holds no more.
   pub supply-antitone-end : {F : ℕ} → E ≤ F → F ≤ P → (x : ℕ) → supply P Q F x ≤ supply P Q E x
   supply-antitone-end {F} ef fp x =
       let less : x - (F - Q) ≤ x - (E - Q) = omega arith in
@@ -68,7 +68,7 @@ module _ (P Q E : ℕ) (pos : 1 ≤ Q) (qe : Q ≤ E) (ep : E ≤ P) where
   pub supply-least-at-period : (x : ℕ) → supply P Q P x ≤ supply P Q E x
   supply-least-at-period = supply-antitone-end ep (omega arith)
 
-  -- A larger budget with the same budget end holds no less.
+  -- A larger budget with the same giving end holds no less.
   pub supply-mono-budget : {R : ℕ} → Q ≤ R → R ≤ E → (x : ℕ) → supply P Q E x ≤ supply P R E x
   supply-mono-budget {R} qr re x =
       let more : x - (E - Q) ≤ x - (E - R) = omega arith in

@@ -4,7 +4,6 @@ use mathlib.Core.Path.{_≡_, refl, sym, ap, _∙_}
 use Rattle.local.specs.Ready.{TakenOut}
 use Rattle.local.proofs.TaskLaws.{some-task, tasks-within}
 use Rattle.local.proofs.FailingLaws.{FailingFrom, failing-from-zero, failing-here, failing-next, failing-over}
-use borrow.Author.Tests.{not-true, not-false}
 use borrow.Author.Needs.{needs}
 use native.Mathlib.Omega.{arith}
 use Rattle.local.proofs.first_failing_task.Statement.{statement}
@@ -56,7 +55,13 @@ cast-result : tie.Need-cast-result Inv-loop μ-loop
 cast-result c = search needs
 
 returns : tie.Need-returns Inv-loop μ-loop
-returns c = failing-here _ _ _ _ (omega arith) (sym (not-true _ (c .if1 .taken)) ∙ c .before .task-passes .ensures) (c .before .before .before .before .before .before .loop .inv .3)
+returns c =
+    let s : tie.Start Inv-loop μ-loop = c .before .before .before .before .before .before .before .before .before .before .before in
+    omega (
+      arith,
+      failing-here (s .args .m) (s .args .sub) (s .args .end) (c .before .before .before .before .before .before .loop .i) (omega arith) _ (c .before .task-passes .ensures) (c .if1 .taken)
+          (c .before .before .before .before .before .before .loop .inv .3),
+    )
 
 add-i : tie.Need-add-i Inv-loop μ-loop
 add-i c = search needs
@@ -69,7 +74,7 @@ loop-again c = (
   c .before .before .before .before .before .before .loop .inv .0,
   search needs,
   search needs,
-  failing-next _ _ _ _ (omega arith) (sym (not-false _ (c .if1 .left)) ∙ c .before .task-passes .ensures) (c .before .before .before .before .before .before .loop .inv .3),
+  failing-next _ _ _ _ (omega arith) _ (c .before .task-passes .ensures) (c .if1 .left) (c .before .before .before .before .before .before .loop .inv .3),
 )
 
 returns-2 : tie.Need-returns-2 Inv-loop μ-loop

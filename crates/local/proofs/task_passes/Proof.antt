@@ -39,8 +39,8 @@ held-within-requires c κs =
       (
         record {
           budget-least = some-budget _ _ (s .pre .0 .sound);
-          budget-by-end = s .pre .0 .budget-by-end;
-          end-by-period = s .pre .0 .end-by-period;
+          budget-by-end = omega arith;
+          end-by-period = omega arith;
         },
         (omega arith, omega arith, omega arith),
       ),

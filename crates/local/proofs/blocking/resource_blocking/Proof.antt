@@ -19,7 +19,11 @@ abbrev μ-loop : tie.MeasureT-loop
 μ-loop m ceiling i l sub n longest₀ j₀ longest j = n - j
 
 returns : tie.Need-returns Inv-loop μ-loop
-returns c = (no-blocking-under-ceiling _ _ _ _ (c .before .pre .1 .0) (c .if1 .taken), search needs)
+returns c = (
+  no-blocking-under-ceiling (subsystemM (c .before .args .m) (c .before .args .t1)) (c .before .args .i) (c .before .args .l) (c .before .args .ceiling)
+      (c .before .pre .1 .0) (omega arith),
+  search needs,
+)
 
 index-requires : tie.Need-index-requires Inv-loop μ-loop
 index-requires c κs = search needs

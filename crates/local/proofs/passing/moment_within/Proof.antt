@@ -1,3 +1,5 @@
+-- `local::passing::moment_within` gives the moment, or one past the deadline: a moment is never sooner than its need.
+-- Assumes nothing.
 use native.Mathlib.Omega.{arith}
 use Rattle.supply.proofs.MomentLaws.{moment-not-sooner}
 use borrow.Author.Needs.{needs}

@@ -1,3 +1,4 @@
+-- `local::passing::need_in` gives the constant part with what the tasks above ask for. Assumes nothing.
 use native.Mathlib.Omega.{arith}
 use Rattle.least.proofs.Demand.{total-is}
 use borrow.Author.Needs.{needs}
