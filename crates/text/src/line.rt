@@ -17,7 +17,7 @@ use lines::put_bytes;
 use lines::put_number;
 
 // A word, and a number behind it.
-fn put_figure(buf: &mut [u8], at: usize, label: &[u8], n: u32) -> usize
+pub fn put_figure(buf: &mut [u8], at: usize, label: &[u8], n: u32) -> usize
     requires { ⌜ at + length (now label) + 10 ≤ length (now buf) ⌝ }
     ensures { λ r. ⌜ Wrote (now (buf .entry)) at (now (label .entry) ++ decimal n) (now (buf .exit)) r ⌝ }
 {
