@@ -2,3 +2,4 @@
 pub mod InterfaceLaws
 pub mod SoundLaws
 pub mod AcceptedLaws
+pub mod RowsLaws
