@@ -3,3 +3,4 @@ pub mod InterfaceLaws
 pub mod SoundLaws
 pub mod AcceptedLaws
 pub mod RowsLaws
+pub mod ReportLaws

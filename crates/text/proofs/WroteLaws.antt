@@ -11,13 +11,13 @@ use Rattle.text.specs.Wrote.{Wrote}
 
 -- What was written behind what was written is both.
 pub wrote-then :
-  {b xs mid ys out : List ℕ} {at r r′ : ℕ} → at + length xs ≤ length b → Wrote b at xs mid r → Wrote mid r ys out r′ →
-  Wrote b at (xs ++ ys) out r′
+    {b xs mid ys out : List ℕ} {at r r′ : ℕ} → at + length xs ≤ length b → Wrote b at xs mid r → Wrote mid r ys out r′ →
+    Wrote b at (xs ++ ys) out r′
 wrote-then {b} {xs} {mid} {ys} {out} {at} {r} {r′} room w v =
     record {
       place = v .place ∙ ap (λ (k : ℕ). k + length ys) (w .place) ∙ add-assoc at (length xs) (length ys) ∙ ap (λ (k : ℕ). at + k) (sym (length-append xs ys));
       holds =
-        v .holds ∙ ap₂ (λ (m : List ℕ) (k : ℕ). written m k ys) (w .holds) (w .place) ∙ written-then b at xs ys room
+          v .holds ∙ ap₂ (λ (m : List ℕ) (k : ℕ). written m k ys) (w .holds) (w .place) ∙ written-then b at xs ys room;
     }
 
 -- The same from the two facts that a function gives.

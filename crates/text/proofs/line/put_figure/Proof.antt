@@ -16,14 +16,15 @@ put-bytes-requires c κs = search needs
 
 -- src/line.rt:23:5
 put-number-requires : tie.Need-put-number-requires
-put-number-requires c κs = 
+put-number-requires c κs =
     let s = c .before .before .before .before .before .before .before in
-    omega
-    (arith,
-    decimal-at-most-ten (s .args .n),
-    c .before .before .before .put-bytes .ensures .0,
-    c .before .before .before .put-bytes .kept .0,
-    s .pre)
+    omega (
+      arith,
+      decimal-at-most-ten (s .args .n),
+      c .before .before .before .put-bytes .ensures .0,
+      c .before .before .before .put-bytes .kept .0,
+      s .pre,
+    )
 
 -- src/line.rt:18:1
 same-length : tie.Need-same-length
@@ -31,7 +32,7 @@ same-length c = c .before .before .put-number .kept .0 ∙ c .before .before .be
 
 -- src/line.rt:18:1
 returns : tie.Need-returns
-returns c = 
+returns c =
     wrote-then (omega (arith, c .before .before .before .before .before .before .before .before .before .before .pre)) (wrote (c .before .before .before .before .before .before .put-bytes .ensures)) (wrote (c .before .before .put-number .ensures))
 
 pub put-figure-spec : {M : Type 1} → statement M
