@@ -35,7 +35,7 @@ module _ (v : View) where
   budget-and-held-at-most l h = omega (arith, held-at-most l h)
 
   -- What the active period is the least solution of.
-  activeTotal : ℕ → ℕ
+  abbrev pub activeTotal : ℕ → ℕ
   activeTotal = total (v .periods) (v .costs) (v .place + 1) (v .blocking)
 
 module _ (v : View) (sv : Sound-view v) where
@@ -47,19 +47,19 @@ module _ (v : View) (sv : Sound-view v) where
 
   -- B, the higher subsystems, and its own jobs.
   active-total : (x : ℕ) → activeTotal v x ≡ v .blocking + demand (v .periods) (v .costs) (v .place) x + up x (v .period) * cost v
-  unfolding activeTotal total
+  unfolding total
   active-total x =
       let own : up x (getD (v .periods) (v .place) 0) * getD (v .costs) (v .place) 0 ≡ up x (v .period) * cost v = ap₂ (λ (p c : ℕ). up x p * c) (sv .own-period) (sv .own-cost) in
       omega (arith, demand-suc (v .periods) (v .costs) (v .place) x)
 
-  active-starts : 1 ≤ activeTotal v 1
+  pub active-starts : 1 ≤ activeTotal v 1
   active-starts =
       let one : 0 < up 1 (v .period) * cost v = mul-pos (up-pos 1 (v .period) period-pos (omega arith)) (le-trans (sv .budget-pos) (budget-at-most v)) in
       omega (arith, active-total 1)
 
   module _ {active : ℕ} (is : activePeriod v ≡ some active) where
     active-is-least : IsLeast (activeTotal v) active
-    unfolding activePeriod activeTotal
+    unfolding activePeriod
     active-is-least = least-strict (v .periods) (v .costs) (v .place + 1) (v .blocking) horizon (sv .loads) active-starts is
 
     pub active-from : 1 ≤ active

@@ -1,26 +1,27 @@
 -- Laws of budget ends (step 9): every job of an active period has one, none is above the active period, each lies after the
 -- job's release, and the next job's search starts where this one ended, and Q + X further on. Assumes nothing.
 use Prim.Native.Nat.{ℕ, suc, _+_, _*_, _≤_, _<_}
-use native.Mathlib.Nat.{mul-le-mul-right, suc-mul}
+use native.Mathlib.Nat.{mul-le-mul-right, suc-mul, mul-le-mul-left}
 use native.Mathlib.Numerals.{add-one}
 use native.Mathlib.Omega.{arith}
 use mathlib.Core.Path.{_≡_, refl, sym, ap, _∙_}
 use mathlib.Core.Logic.{⊎-elim}
 use mathlib.Core.Option.{some}
+use lib.ListN.{getD}
 use Rattle.lists.proofs.Over.{le-or-lt}
 use Rattle.least.specs.Up.{up}
 use Rattle.least.specs.Demand.{demand, total}
 use Rattle.least.specs.Least.{least}
-use Rattle.least.specs.Search.{Stands, Search, Comes-down, IsLeast}
+use Rattle.least.specs.Search.{Search, Comes-down, IsLeast}
 use Rattle.least.proofs.Up.{up-is-least}
 use Rattle.least.proofs.Demand.{demand-mono}
-use Rattle.least.proofs.Search.{least-stands, stands-warm}
+use Rattle.least.proofs.Search.{stands-at-one, least-stands, least-is-one, stands-warm}
 use Rattle.least.proofs.LeastLaws.{least-below}
 use Rattle.table.specs.Limits.{horizon}
 use Rattle.global.specs.Blocking.{numberOr}
 use Rattle.global.specs.View.{View, cost}
 use Rattle.global.specs.Ends.{jobs, ahead, budgetEnd}
-use Rattle.global.specs.Sound.{Sound-view, Counted}
+use Rattle.global.specs.Sound.{Sound-view, Counted, Budget-from}
 use Rattle.global.proofs.ActiveLaws.{budget-at-most, period-pos, higher-loads, active-from, active-within, active-parts, active-before, released-within}
 
 -- What the budget end of job k is the least solution of.
@@ -45,7 +46,22 @@ module _ (v : View) (sv : Sound-view v) where
   pub budget-starts : (k : ℕ) → 1 ≤ budgetTotal v k 1
   budget-starts k = omega (arith, sv .budget-pos, ahead-holds-budget v k, budget-total v k 1)
 
+  -- A search may start from 1.
+  pub budget-from-one : (k : ℕ) → Budget-from v k 1
+  unfolding Budget-from
+  budget-from-one k = stands-at-one (budgetTotal v k) (budget-starts k)
+
+  -- What the code computes ahead of job k.
+  pub ahead-computed : (k : ℕ) {r : ℕ} → r ≡ v .blocking + k * getD (v .costs) (v .place) 0 + v .budget → r ≡ ahead v k
+  unfolding ahead
+  ahead-computed k e = e ∙ ap (λ (c : ℕ). v .blocking + k * c + v .budget) (sv .own-cost)
+
   module _ {k : ℕ} (ct : Counted v k) where
+    -- The jobs before k take less than the active period.
+    pub jobs-before-within : k * getD (v .costs) (v .place) 0 < ct .active
+    jobs-before-within =
+        omega (arith, ap (λ (c : ℕ). k * c) (sv .own-cost), mul-le-mul-left k (sv .fits), released-within v sv (ct .is-active) k (ct .among))
+
     -- Up to its end, job k and those before it fit into the active period, with all that they may hold.
     pub jobs-fit : ahead v k + (cost v + demand (v .periods) (v .costs) (v .place) (ct .active)) ≤ ct .active + v .budget
     unfolding ahead
@@ -92,7 +108,8 @@ module _ (v : View) (sv : Sound-view v) where
           down = budget-down;
         }
 
-    pub budget-search : (start : ℕ) → Stands (budgetTotal v k) start → Search (v .periods) (v .costs) (v .place) (ahead v k) start
+    pub budget-search : (start : ℕ) → Budget-from v k start → Search (v .periods) (v .costs) (v .place) (ahead v k) start
+    unfolding Budget-from
     budget-search start s =
         record {
           loads = higher-loads v sv;
@@ -100,8 +117,16 @@ module _ (v : View) (sv : Sound-view v) where
           stands = s;
         }
 
+    -- The same from the number that the code has computed, and what the search finds.
+    pub budget-asked : {a start : ℕ} → a ≡ ahead v k → Budget-from v k start → Search (v .periods) (v .costs) (v .place) a start × Comes-down (total (v .periods) (v .costs) (v .place) a)
+    budget-asked {a} {start} e s = rw e (budget-search start s, budget-comes-down)
+
+    pub budget-found : {a z : ℕ} → a ≡ ahead v k → IsLeast (total (v .periods) (v .costs) (v .place) a) z → z ≡ budgetEnd v k
+    budget-found e i = least-is-one (budgetTotal v k) (rw e at i) budget-end-is-least
+
     -- The next job's search may start at F(k) + Q + X.
-    pub next-starts : Stands (budgetTotal v (k + 1)) (budgetEnd v k + cost v)
+    pub next-starts : Budget-from v (k + 1) (budgetEnd v k + cost v)
+    unfolding Budget-from
     next-starts =
         stands-warm (budgetTotal v k) (budgetTotal v (k + 1)) (cost v) (least-stands (budgetTotal v k) budget-end-is-least)
         (λ y h. omega (arith, budget-total v k y, budget-total v (k + 1) y, ahead-next v k))

@@ -8,3 +8,11 @@ pub mod ActiveLaws
 pub mod BudgetEndLaws
 pub mod JobEndLaws
 pub mod ViewLaws
+pub mod AfterLaws
+pub mod BestLaws
+pub mod ResponseLaws
+pub mod JobsLaws
+pub mod RowLaws
+pub mod LeadingLaws
+pub mod LedLaws
+pub mod SeenLaws

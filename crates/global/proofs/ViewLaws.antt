@@ -25,7 +25,7 @@ module _ (g : InterfacesM) (s : ℕ) where
   unfolding viewOf held
   held-seen l h = getD-upTo (holdingOf g s) (g .resources) l 0 h
 
-  ceiling-seen : (l : ℕ) → l < g .resources → ceiling (viewOf g s) l ≡ outerCeiling g l
+  pub ceiling-seen : (l : ℕ) → l < g .resources → ceiling (viewOf g s) l ≡ outerCeiling g l
   unfolding viewOf ceiling
   ceiling-seen l h = getD-upTo (outerCeiling g) (g .resources) l 0 h
 

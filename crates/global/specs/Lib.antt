@@ -8,4 +8,6 @@ pub mod Response
 pub mod Row
 pub mod Common
 pub mod Blocked
+pub mod Computed
+pub mod Leading
 pub mod Sound

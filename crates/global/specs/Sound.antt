@@ -4,12 +4,13 @@ use Prim.Native.Nat.{ℕ, _+_, _^_, _≤_, _<_}
 use mathlib.Core.Path.{_≡_}
 use mathlib.Core.Option.{some}
 use lib.ListN.{length, getD}
-use Rattle.least.specs.Search.{Loads}
+use Rattle.least.specs.Demand.{total}
+use Rattle.least.specs.Search.{Loads, Stands}
 use Rattle.table.specs.Limits.{most, largest}
 use Rattle.global.specs.Interfaces.{InterfacesM}
 use Rattle.global.specs.Parts.{count, periodOf, budgetOf, holding}
 use Rattle.global.specs.View.{View, resources, held, ceiling, cost}
-use Rattle.global.specs.Ends.{activePeriod, jobs}
+use Rattle.global.specs.Ends.{activePeriod, jobs, ahead}
 
 -- Interfaces of an admitted table: counts within the limit, 1 ≤ Q, and Q + X ≤ P ≤ 1,000,000.
 pub record Sound (g : InterfacesM) : Type 0 where
@@ -38,3 +39,13 @@ pub record Counted (v : View) (k : ℕ) : Type 0 where
   pub active : ℕ
   pub is-active : activePeriod v ≡ some active
   pub among : k < jobs v active
+
+-- n is the number of jobs of the active period.
+pub record Jobs (v : View) (n : ℕ) : Type 0 where
+  pub active : ℕ
+  pub is-active : activePeriod v ≡ some active
+  pub all : n ≡ jobs v active
+
+-- The search for the budget end of job k may stand at `start`.
+unfoldable pub Budget-from : View → ℕ → ℕ → Type 0
+Budget-from v k start = Stands (total (v .periods) (v .costs) (v .place) (ahead v k)) start

@@ -21,14 +21,14 @@ pub struct Common {
 }
 
 // The larger of two numbers.
-pub fn larger(a: u32, b: u32) -> u32
+pub(crate) fn larger(a: u32, b: u32) -> u32
     ensures { λ r. ⌜ r ≡ max a b ⌝ }
 {
     if a < b { b } else { a }
 }
 
 // X(s): the largest holding time over the first m resources.
-pub fn largest_holding(i: Interface, m: usize) -> u32
+pub(crate) fn largest_holding(i: Interface, m: usize) -> u32
     requires { ⌜ m ≤ most ⌝ }
     ensures { λ r. ⌜ r ≡ largestTo (holdingAt i) m ⌝ }
 {
@@ -42,7 +42,7 @@ pub fn largest_holding(i: Interface, m: usize) -> u32
 }
 
 // RC(l): the lowest index of a subsystem with an access to resource l, or the last where there is none.
-pub fn outer_ceiling(g: Interfaces, l: usize) -> usize
+pub(crate) fn outer_ceiling(g: Interfaces, l: usize) -> usize
     requires { ⌜ Sound (meaningOf g) ⌝ }
     requires { ⌜ l < g .resources ⌝ }
     ensures { λ r. ⌜ r ≡ outerCeiling (meaningOf g) l ⌝ }

@@ -3,7 +3,13 @@
 // resource. Every function here is proved, and the crate assumes nothing. Indices count from 0; document 01 counts from 1.
 mod blocking;
 mod ceilings;
+mod leading;
+mod responses;
+mod rows;
 
+pub use ceilings::Common;
+pub use ceilings::in_common;
+pub use rows::row_of;
 use table::Table;
 
 // The interface of a subsystem: period P, budget Q, and for each resource its holding time X(s, l), 0 meaning no access.

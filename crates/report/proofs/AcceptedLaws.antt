@@ -31,8 +31,8 @@ module _ (rows : List Row) (n : ℕ) where
 
   -- So far every row is accepted.
   pub row-accepted :
-    (s : ℕ) → (b : Bool) → b ≡ rowAccepted (getD rows s pastRows) → b ≡ true → allTo (slotAccepted rows) s ≡ true →
-    allTo (slotAccepted rows) (s + 1) ≡ true
+      (s : ℕ) → (b : Bool) → b ≡ rowAccepted (getD rows s pastRows) → b ≡ true → allTo (slotAccepted rows) s ≡ true →
+      allTo (slotAccepted rows) (s + 1) ≡ true
   unfolding slotAccepted
   row-accepted s b e f a = allTo-suc (slotAccepted rows) s ∙ rw a (sym e ∙ f)
 

@@ -33,28 +33,29 @@ module _ (sub : Subsystem) (m : ℕ) (sound : SoundSlot sub m) where
         some-task = rw (← count-of-tasks m sub) (sound .sound .tasks-least);
         tasks-most = rw (← count-of-tasks m sub) (sound .sound .tasks-most);
         resources-most = sound .resources-most;
-        listed = h
+        listed = h;
       }
 
   -- A holding time is below the period, and so below a million.
   pub holding-small : (l : ℕ) → l < m → resourceHolding (subsystemM m sub) l ≤ largest
   unfolding holding
   holding-small l h =
-      omega
-      (arith,
-      below-largest (resourceHolding (subsystemM m sub)) m l h,
-      sound .sound .fits,
-      sound .sound .period-most)
+      omega (
+        arith,
+        below-largest (resourceHolding (subsystemM m sub)) m l h,
+        sound .sound .fits,
+        sound .sound .period-most,
+      )
 
 -- A turn of filling in holding times.
 pub holding-filled :
-  (f : ℕ → ℕ) (l x : ℕ) (hs : List ℕ) → l < most → hs ≡ padded f 0 most l → x ≡ f l → set hs l x ≡ padded f 0 most (l + 1)
+    (f : ℕ → ℕ) (l x : ℕ) (hs : List ℕ) → l < most → hs ≡ padded f 0 most l → x ≡ f l → set hs l x ≡ padded f 0 most (l + 1)
 holding-filled f l x hs h e q = rw (e, q) (padded-set f 0 most l h)
 
 -- The interface with all of them filled in is the subsystem's.
 pub interface-filled :
-  (sub : Subsystem) (m : ℕ) (hs : List ℕ) → hs ≡ padded (resourceHolding (subsystemM m sub)) 0 most m →
-  interfaceM m (record { period = sub .period; budget = sub .budget; holding = hs }) ≡ interfaceFrom m (subsystemM m sub)
+    (sub : Subsystem) (m : ℕ) (hs : List ℕ) → hs ≡ padded (resourceHolding (subsystemM m sub)) 0 most m →
+    interfaceM m (record { period = sub .period; budget = sub .budget; holding = hs }) ≡ interfaceFrom m (subsystemM m sub)
 unfolding interfaceM interfaceFrom holdingAt subsystemM
 interface-filled sub m hs e =
     ap (λ (l : List ℕ). record { period = sub .period; budget = sub .budget; holdings = l })
@@ -72,17 +73,17 @@ unfolding Filled
 none-filled t m is r h = absurd (omega arith)
 
 interface-of-slot :
-  (t : Table) (s m : ℕ) → s < t .count → m ≡ t .resources →
-  interfaceFrom m (subsystemM m (getD (t .subsystems) s pastSubsystems)) ≡ interfaceAt (meaning t) s
+    (t : Table) (s m : ℕ) → s < t .count → m ≡ t .resources →
+    interfaceFrom m (subsystemM m (getD (t .subsystems) s pastSubsystems)) ≡ interfaceAt (meaning t) s
 unfolding interfaceAt meaning
 interface-of-slot t s m h q =
     ap (λ (k : ℕ). interfaceFrom k (subsystemM k (getD (t .subsystems) s pastSubsystems))) q ∙
     ap (interfaceFrom (t .resources)) (sym (subsystem-of-slot t s h))
 
 pub one-more-filled :
-  (t : Table) (m : ℕ) (is : List Interface) (s : ℕ) (x : Interface) → s < t .count → s < length is → m ≡ t .resources →
-  interfaceM m x ≡ interfaceFrom m (subsystemM m (getD (t .subsystems) s pastSubsystems)) → Filled t m is s →
-  Filled t m (set is s x) (s + 1)
+    (t : Table) (m : ℕ) (is : List Interface) (s : ℕ) (x : Interface) → s < t .count → s < length is → m ≡ t .resources →
+    interfaceM m x ≡ interfaceFrom m (subsystemM m (getD (t .subsystems) s pastSubsystems)) → Filled t m is s →
+    Filled t m (set is s x) (s + 1)
 unfolding Filled
 one-more-filled t m is s x h l q e f r g =
     ⊎-elim (λ (k : r ≡ s).
@@ -92,25 +93,25 @@ one-more-filled t m is s x h l q e f r g =
     (eq-or-lt-of-le {n = r} {m = s} (omega arith))
 
 pub all-filled :
-  (t : Table) (n m : ℕ) (is : List Interface) → n ≡ t .count → m ≡ t .resources → Filled t m is n →
-  meaningOf (record { count = n; resources = m; interfaces = is }) ≡ interfacesFrom (meaning t)
+    (t : Table) (n m : ℕ) (is : List Interface) → n ≡ t .count → m ≡ t .resources → Filled t m is n →
+    meaningOf (record { count = n; resources = m; interfaces = is }) ≡ interfacesFrom (meaning t)
 unfolding Filled meaningOf global-interfaceAt interfacesFrom meaning
 all-filled t n m is p q f =
     let e : upTo (global-interfaceAt (record { count = n; resources = m; interfaces = is })) n ≡ upTo (interfaceAt (meaning t)) n
-          = upTo-ext (global-interfaceAt (record { count = n; resources = m; interfaces = is })) (interfaceAt (meaning t)) n f in
+    = upTo-ext (global-interfaceAt (record { count = n; resources = m; interfaces = is })) (interfaceAt (meaning t)) n f in
     ap₂ (λ (k : ℕ) (l : List InterfaceM). record { resources = k; interfaces = l }) q
     (e ∙ ap (upTo (interfaceAt (meaning t))) (p ∙ sym (count-of-subsystems t)))
 
 -- What the rules left of the whole holds of a slot.
 pub sound-slot :
-  (t : Table) (s m : ℕ) → SoundSystem (meaning t) → s < t .count → m ≡ t .resources →
-  SoundSlot (getD (t .subsystems) s pastSubsystems) m
+    (t : Table) (s m : ℕ) → SoundSystem (meaning t) → s < t .count → m ≡ t .resources →
+    SoundSlot (getD (t .subsystems) s pastSubsystems) m
 unfolding meaning
 sound-slot t s m sound h q =
     rw q
     (record {
       sound = rw (← subsystem-of-slot t s h) (sound .subsystem s (rw (count-of-subsystems t) h));
-      resources-most = sound .resources-most
+      resources-most = sound .resources-most;
     })
 
 pub few-subsystems : (t : Table) → SoundSystem (meaning t) → (t .count ≤ most) × (t .resources ≤ most)

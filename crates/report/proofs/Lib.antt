@@ -2,3 +2,5 @@
 pub mod InterfaceLaws
 pub mod SoundLaws
 pub mod AcceptedLaws
+pub mod RowsLaws
+pub mod ReportLaws

@@ -54,7 +54,7 @@ module _ (sys : System) where
         period-small = λ s h. let k : s < subsystemCount sys = rw (← count-of-interfaces) h in rw (period-shown s k) (sound .subsystem s k .period-most);
         budget-pos = λ s h. let k : s < subsystemCount sys = rw (← count-of-interfaces) h in rw (budget-shown s k) (sound .subsystem s k .budget-least);
         fits =
-          λ s h.
-          let k : s < subsystemCount sys = rw (← count-of-interfaces) h in
-          rw (period-shown s k, budget-shown s k, overrun-shown s k) (sound .subsystem s k .fits)
+            λ s h.
+            let k : s < subsystemCount sys = rw (← count-of-interfaces) h in
+            rw (period-shown s k, budget-shown s k, overrun-shown s k) (sound .subsystem s k .fits);
       }

@@ -19,3 +19,23 @@ pub struct Report {
     pub rows: [Row; Table::MOST],
 }
 
+// The report of any table. A refused table gets the rule and the place, and no figure.
+pub fn analyse(t: Table) -> Report
+    ensures { λ r. ⌜ r ≡ reportOf (meaning t) ⌝ }
+{
+    let judged = rules::judging::judge(t);
+    let Judged::Admitted = judged else {
+        return Report {
+            judged,
+            accepted: false,
+            rows: [rows::no_row(); Table::MOST],
+        };
+    };
+    let rows = rows::rows_of(t);
+    let accepted = accepting::all_accepted(rows, numbers::index(t.count));
+    Report {
+        judged,
+        accepted,
+        rows,
+    }
+}

@@ -50,9 +50,10 @@ loop-less c = search needs
 
 -- src/accepting.rt:39:5
 loop-again : tie.Need-loop-again Inv-loop μ-loop
-loop-again c = 
-    (search needs,
-    row-accepted (c .before .before .before .before .before .args .t1) (c .before .before .before .before .before .args .n) (c .before .before .before .before .loop .s) _ (c .before .is-accepted .ensures) (not-false _ (c .if1 .left)) (c .before .before .before .before .loop .inv .1))
+loop-again c = (
+  search needs,
+  row-accepted (c .before .before .before .before .before .args .t1) (c .before .before .before .before .before .args .n) (c .before .before .before .before .loop .s) _ (c .before .is-accepted .ensures) (not-false _ (c .if1 .left)) (c .before .before .before .before .loop .inv .1),
+)
 
 -- src/accepting.rt:34:1
 returns-2 : tie.Need-returns-2 Inv-loop μ-loop

@@ -32,10 +32,11 @@ resource-holding-requires c κs = slots (c .before .before .args .sub) (c .befor
 cast-holding : tie.Need-cast-holding Inv-loop μ-loop
 cast-holding c =
     let a = c .before .before .before .args in
-    omega
-    (arith,
-    holding-small (a .sub) (a .m) (c .before .before .before .pre) (c .before .before .loop .l) (c .before .loop-test .taken),
-    c .resource-holding .ensures .0)
+    omega (
+      arith,
+      holding-small (a .sub) (a .m) (c .before .before .before .pre) (c .before .before .loop .l) (c .before .loop-test .taken),
+      c .resource-holding .ensures .0,
+    )
 
 -- src/interface.rt:22:9
 mul-holding : tie.Need-mul-holding Inv-loop μ-loop
@@ -55,9 +56,10 @@ loop-less c = search needs
 
 -- src/interface.rt:21:5
 loop-again : tie.Need-loop-again Inv-loop μ-loop
-loop-again c = 
-    (holding-filled _ _ _ _ (omega (arith, c .before .before .before .pre .resources-most)) (c .before .before .loop .inv .0) (c .resource-holding .ensures .0),
-    search needs)
+loop-again c = (
+  holding-filled _ _ _ _ (omega (arith, c .before .before .before .pre .resources-most)) (c .before .before .loop .inv .0) (c .resource-holding .ensures .0),
+  search needs,
+)
 
 -- src/interface.rt:15:1
 returns : tie.Need-returns Inv-loop μ-loop

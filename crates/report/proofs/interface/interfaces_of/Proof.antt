@@ -29,13 +29,14 @@ index-requires-2 c κs = search needs
 
 -- src/interface.rt:46:5
 loop-holds : tie.Need-loop-holds Inv-loop μ-loop
-loop-holds c = 
-    (search needs,
-    search needs,
-    search needs,
-    omega (arith, few-subsystems (c .before .before .args .t1) (c .before .before .pre) .0),
-    search needs,
-    none-filled _ _ _)
+loop-holds c = (
+  search needs,
+  search needs,
+  search needs,
+  omega (arith, few-subsystems (c .before .before .args .t1) (c .before .before .pre) .0),
+  search needs,
+  none-filled _ _ _,
+)
 
 -- src/interface.rt:47:19
 mul-sub : tie.Need-mul-sub Inv-loop μ-loop
@@ -68,13 +69,14 @@ loop-less c = search needs
 
 -- src/interface.rt:46:5
 loop-again : tie.Need-loop-again Inv-loop μ-loop
-loop-again c = 
-    (search needs,
-    search needs,
-    search needs,
-    search needs,
-    simp length-set (search needs),
-    one-more-filled (c .before .before .before .before .before .before .args .t1) _ (c .before .before .before .loop .interfaces) (c .before .before .before .loop .s) (c .interface-of .result) (omega arith) (omega arith) (c .before .before .before .loop .inv .1) (c .interface-of .ensures) (c .before .before .before .loop .inv .5))
+loop-again c = (
+  search needs,
+  search needs,
+  search needs,
+  search needs,
+  simp length-set (search needs),
+  one-more-filled (c .before .before .before .before .before .before .args .t1) _ (c .before .before .before .loop .interfaces) (c .before .before .before .loop .s) (c .interface-of .result) (omega arith) (omega arith) (c .before .before .before .loop .inv .1) (c .interface-of .ensures) (c .before .before .before .loop .inv .5),
+)
 
 -- src/interface.rt:33:1
 returns : tie.Need-returns Inv-loop μ-loop

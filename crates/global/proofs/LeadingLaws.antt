@@ -1,0 +1,130 @@
+-- Which resources lead: the steps of the search for one that beats, and that every resource has one that leads it. Assumes nothing.
+use Prim.Native.Nat.{ℕ, _+_, _-_, _≤_, _<_}
+use native.Mathlib.Nat.{sub-zero}
+use native.Mathlib.Omega.{arith}
+use native.Mathlib.Decide.{ℕ-discrete}
+use mathlib.Core.Path.{_≡_, refl, sym, ap, _∙_}
+use mathlib.Core.Bool.{Bool, true, false, cond}
+use mathlib.Core.Option.{Option, none, some}
+use mathlib.Core.Logic.{_⊎_, inl, inr, ⊎-elim}
+use lib.Dec.{eqb, ltb}
+use borrow.Author.Tests.{eq-eqb, ne-eqb, eqb-true, eqb-false, le-ltb}
+use Rattle.lists.proofs.Over.{le-or-lt, below-largest}
+use Rattle.global.proofs.MoreRange.{atLargest, first-largest}
+use Rattle.lists.specs.Range.{largestTo, firstSuch}
+use Rattle.lists.proofs.First.{firstSuch-here, firstSuch-next, firstSuch-over, firstSuch-nowhere, IsFirstSuch}
+use Rattle.global.specs.Leading.{beats, beatenBy, unbeaten, led}
+
+-- Two numbers are the same or not.
+same-or-not : (a b : ℕ) → (a ≡ b) ⊎ (a ≡ b → ⊥)
+same-or-not a b = elim (ℕ-discrete a b) [ yes e ↦ inl e | no n ↦ inr n ]
+
+-- What is left of the search for a resource that beats l when it stands at j.
+abbrev pub leftBeaten : (ℕ → ℕ) → (ℕ → ℕ) → ℕ → ℕ → ℕ → Option ℕ
+leftBeaten h c m l j = firstSuch (beatenBy h c l) (m - j) j
+
+module _ (h c : ℕ → ℕ) (m l : ℕ) where
+  by-search : {o : Option ℕ} → leftBeaten h c m l 0 ≡ o → led h c m l ≡ unbeaten (h l) o
+  unfolding led
+  by-search {o} e =
+      ap (λ (n : ℕ). unbeaten (h l) (firstSuch (beatenBy h c l) n 0)) (sym (sub-zero m)) ∙ ap (unbeaten (h l)) e
+
+  -- One that beats: l does not lead.
+  pub led-here : (j : ℕ) → j < m → true ≡ beatenBy h c l j → leftBeaten h c m l j ≡ leftBeaten h c m l 0 → 0 ≡ led h c m l
+  led-here j u b e = sym (by-search (sym e ∙ firstSuch-here (beatenBy h c l) m j u (sym b)))
+
+  -- One that does not: the search goes on.
+  pub led-next : (j : ℕ) → j < m → false ≡ beatenBy h c l j → leftBeaten h c m l (j + 1) ≡ leftBeaten h c m l j
+  led-next j u b = sym (firstSuch-next (beatenBy h c l) m j u (sym b))
+
+  -- None: l leads.
+  pub led-over : (j : ℕ) → m ≤ j → leftBeaten h c m l j ≡ leftBeaten h c m l 0 → h l ≡ led h c m l
+  led-over j u e = sym (by-search (sym e ∙ firstSuch-over (beatenBy h c l) m j u))
+
+  -- A resource leads, or counts as not held.
+  pub leads-or-not : (led h c m l ≡ h l) ⊎ (led h c m l ≡ 0)
+  unfolding led
+  leads-or-not = go (firstSuch (beatenBy h c l) m 0)
+    where
+      go : (o : Option ℕ) → (unbeaten (h l) o ≡ h l) ⊎ (unbeaten (h l) o ≡ 0)
+      go none = inl refl
+      go (some j) = inr refl
+
+  -- Where nothing beats it, it leads.
+  leads : ((j : ℕ) → j < m → beatenBy h c l j ≡ false) → led h c m l ≡ h l
+  unfolding led
+  leads u = ap (unbeaten (h l)) (firstSuch-nowhere (beatenBy h c l) m 0 (λ j a b. u j (omega arith)))
+
+module _ (h c : ℕ → ℕ) (m : ℕ) where
+  -- The holding times of the resources with ceiling r.
+  group : ℕ → ℕ → ℕ
+  group r x = cond (eqb (c x) r) (h x) 0
+
+  group-in : (r x : ℕ) → c x ≡ r → group r x ≡ h x
+  unfolding group
+  group-in r x e = rw (eq-eqb (c x) r e) refl
+
+  group-out : (r x : ℕ) → 0 < group r x → c x ≡ r
+  unfolding group
+  group-out r x u = go (eqb (c x) r) refl u
+    where
+      go : (b : Bool) → eqb (c x) r ≡ b → 0 < cond b (h x) 0 → c x ≡ r
+      go true e q = eqb-true (c x) r e
+      go false e q = absurd (omega arith)
+
+  -- The first of a group that is held longest leads.
+  first-leads : (r x : ℕ) → 0 < largestTo (group r) m → IsFirstSuch (atLargest (group r) m) m 0 x → led h c m x ≡ h x
+  unfolding beatenBy beats
+  first-leads r x pos i =
+      leads h c m x
+      (λ j u.
+      ⊎-elim (λ (e : c j ≡ c x). beaten-not j u e)
+      (λ (n : c j ≡ c x → ⊥). rw (ne-eqb (c j) (c x) n) refl)
+      (same-or-not (c j) (c x)))
+    where
+      top : group r x ≡ largestTo (group r) m
+      top = eqb-true _ _ (i .passes)
+
+      mine : c x ≡ r
+      mine = group-out r x (omega (arith, top))
+
+      longest : h x ≡ largestTo (group r) m
+      longest = sym (group-in r x mine) ∙ top
+
+      beaten-not : (j : ℕ) → j < m → c j ≡ c x → cond (eqb (c j) (c x)) (cond (ltb (h x) (h j)) true (cond (eqb (h x) (h j)) (ltb j x) false)) false ≡ false
+      beaten-not j u e =
+          let here : group r j ≡ h j = group-in r j (e ∙ mine) in
+          let no-longer : h j ≤ h x = omega (arith, below-largest (group r) m j u, longest, here) in
+          rw (eq-eqb (c j) (c x) e, le-ltb (h x) (h j) no-longer)
+          (⊎-elim
+          (λ (q : h x ≡ h j).
+          rw (eq-eqb (h x) (h j) q, le-ltb j x (no-lower j q here)) refl)
+          (λ (n : h x ≡ h j → ⊥). rw (ne-eqb (h x) (h j) n) refl)
+          (same-or-not (h x) (h j)))
+        where
+          no-lower : (j : ℕ) → h x ≡ h j → group r j ≡ h j → x ≤ j
+          no-lower j q here =
+              ⊎-elim (λ (u : x ≤ j). u)
+              (λ (u : j < x). absurd (eqb-false _ _ (i .before j (omega arith) u) (here ∙ sym q ∙ longest)))
+              (le-or-lt x j)
+
+  -- Every resource that is held has one with its ceiling that leads: one held longer, or as long and no later.
+  pub leader-of : (l : ℕ) → l < m → 0 < h l → (j : ℕ) × (j < m) × (c j ≡ c l) × (led h c m j ≡ h j) × ((h l < h j) ⊎ ((h l ≡ h j) × (j ≤ l)))
+  leader-of l u pos =
+      let r = c l in
+      let f = first-largest (group r) m (omega arith) in
+      let j = f .0 in
+      let i = f .1 in
+      let here : group r l ≡ h l = group-in r l refl in
+      let top : group r j ≡ largestTo (group r) m = eqb-true _ _ (i .passes) in
+      let some-held : 0 < largestTo (group r) m = omega (arith, below-largest (group r) m l u) in
+      let mine : c j ≡ r = group-out r j (omega arith) in
+      let longest : group r j ≡ h j = group-in r j mine in
+      let order : (h l < h j) ⊎ ((h l ≡ h j) × (j ≤ l)) =
+      ⊎-elim (λ (q : h j ≤ h l). inr (same-held l j u i here top longest q)) (λ (q : h l < h j). inl q) (le-or-lt (h j) (h l)) in
+      (j, omega (arith, i .within), mine, first-leads r j some-held i, order)
+    where
+      same-held : (l j : ℕ) → l < m → IsFirstSuch (atLargest (group (c l)) m) m 0 j → group (c l) l ≡ h l → group (c l) j ≡ largestTo (group (c l)) m → group (c l) j ≡ h j → h j ≤ h l → (h l ≡ h j) × (j ≤ l)
+      same-held l j u i here top longest q =
+          let e : h l ≡ h j = omega (arith, below-largest (group (c l)) m l u) in
+          (e, ⊎-elim (λ (k : j ≤ l). k) (λ (k : l < j). absurd (eqb-false _ _ (i .before l (omega arith) k) (here ∙ e ∙ sym longest ∙ top))) (le-or-lt j l))

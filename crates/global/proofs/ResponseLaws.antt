@@ -1,0 +1,108 @@
+-- Laws of responses (step 11): what a search from the budget's end gives is the response with a resource, and a job's response
+-- with and without resources. Assumes nothing.
+use Prim.Native.Nat.{ℕ, suc, _+_, _-_, _*_, _≤_, _<_}
+use native.Mathlib.Nat.{add-sub-cancel}
+use native.Mathlib.Omega.{arith}
+use native.Mathlib.Numerals.{add-one}
+use mathlib.Core.Path.{_≡_, refl, sym, ap, _∙_}
+use mathlib.Core.Logic.{⊎-elim}
+use lib.ListN.{getD}
+use borrow.Author.Tests.{lt-ltb, le-ltb}
+use Rattle.lists.specs.Range.{largestTo}
+use Rattle.lists.proofs.Over.{le-or-lt}
+use Rattle.least.specs.Search.{IsLeast}
+use Rattle.least.proofs.Search.{least-is-one}
+use Rattle.global.specs.View.{View, resources, held, ceiling, overrun, cost}
+use Rattle.global.specs.Ends.{budgetEnd}
+use Rattle.global.specs.Response.{firstAt, responseWith, jobResponse, jobResource}
+use Rattle.global.specs.Sound.{Sound-view, Counted}
+use Rattle.global.specs.Computed.{afterwards, After, Responded, bestOf, jobOf}
+use Rattle.global.specs.declared.responses.Best.{Best}
+use Rattle.global.proofs.MoreRange.{firstAt-within}
+use Rattle.global.proofs.BudgetEndLaws.{budget-end-is-least}
+use Rattle.global.proofs.JobEndLaws.{jobConstant, jobTotal, constant-by-end, job-search, job-comes-down, job-end-is-least}
+
+module _ (v : View) (sv : Sound-view v) {k : ℕ} (ct : Counted v k) (l : ℕ) (within : l < resources v) where
+  afterwards-is : 0 < held v l → afterwards (v .periods) (v .costs) (ceiling v l) (budgetEnd v k) (held v l) ≡ jobConstant v k l
+  afterwards-is u = omega (arith, constant-by-end v sv ct l within u)
+
+  -- A search for the job end may go on from F(k) + X(s, l).
+  pub after-end : {end : ℕ} → end ≡ budgetEnd v k → 0 < held v l → After (v .periods) (v .costs) (ceiling v l) end (held v l)
+  after-end q u =
+      let e = afterwards-is u in
+      rw q
+      (record {
+        from = budget-end-is-least v sv ct .from;
+        asked = omega (arith, constant-by-end v sv ct l within u);
+        search = rw e (job-search v sv ct l within u);
+        down = rw e (job-comes-down v sv ct l within u);
+      })
+
+  -- What it gives is the response with that resource.
+  pub responds : {end r : ℕ} → end ≡ budgetEnd v k → Responded (v .periods) (v .costs) (ceiling v l) end (held v l) (k * v .period) r → r ≡ responseWith v k l
+  unfolding responseWith
+  responds {end} {r} q given = ⊎-elim uncounted counted (le-or-lt (held v l) 0)
+    where
+      d : Responded (v .periods) (v .costs) (ceiling v l) (budgetEnd v k) (held v l) (k * v .period) r
+      d = rw q at given
+
+      uncounted : held v l ≤ 0 → r ≡ responseWith v k l
+      uncounted u = rw (le-ltb 0 (held v l) u) (d .uncounted u)
+
+      counted : 0 < held v l → r ≡ responseWith v k l
+      counted u =
+          let least : IsLeast (jobTotal v k l) (r + k * v .period) = rw (afterwards-is u) at (d .counted u) in
+          rw (lt-ltb 0 (held v l) u)
+          (sym (add-sub-cancel r (k * v .period)) ∙
+          ap (λ (z : ℕ). z - k * v .period) (least-is-one (jobTotal v k l) least (job-end-is-least v sv ct l within u)))
+
+module _ (v : View) (k : ℕ) where
+  -- Without resources a job ends with its budget.
+  pub response-without : overrun v ≡ 0 → budgetEnd v k - k * v .period ≡ jobResponse v k
+  unfolding jobResponse
+  response-without e = rw e refl
+
+  pub resource-without : overrun v ≡ 0 → 0 ≡ jobResource v k
+  unfolding jobResource
+  resource-without e = rw e refl
+
+  -- With resources it is the largest over these.
+  pub response-with : 0 < overrun v → largestTo (responseWith v k) (resources v) ≡ jobResponse v k
+  unfolding jobResponse
+  response-with u = rw (lt-ltb 0 (overrun v) u) refl
+
+  pub resource-with : 0 < overrun v → suc (firstAt (responseWith v k) (resources v)) ≡ jobResource v k
+  unfolding jobResource
+  resource-with u = rw (lt-ltb 0 (overrun v) u) refl
+
+-- What Q + X tells of X.
+module _ (v : View) (sv : Sound-view v) where
+  pub no-overrun : getD (v .costs) (v .place) 0 ≡ v .budget → overrun v ≡ 0
+  unfolding cost
+  no-overrun e = omega (arith, sv .own-cost)
+
+  pub some-overrun : (getD (v .costs) (v .place) 0 ≡ v .budget → ⊥) → 0 < overrun v
+  unfolding cost
+  some-overrun n =
+      ⊎-elim (λ (u : overrun v ≤ 0). absurd (n (omega (arith, sv .own-cost)))) (λ (u : 0 < overrun v). u)
+      (le-or-lt (overrun v) 0)
+
+-- The job by its parts.
+module _ (v : View) (k : ℕ) {end : ℕ} (e : end ≡ budgetEnd v k) where
+  pub job-without : overrun v ≡ 0 → record { end = end; response = end - k * v .period; resource = 0 } ≡ jobOf v k
+  unfolding jobOf
+  job-without u =
+      let r : end - k * v .period ≡ jobResponse v k = ap (λ (z : ℕ). z - k * v .period) e ∙ response-without v k u in
+      λ i. record { end = e i; response = r i; resource = resource-without v k u i }
+
+  pub job-with : 0 < overrun v → {b : Best} → b ≡ bestOf (responseWith v k) (resources v) → record { end = end; response = b .value; resource = b .at + 1 } ≡ jobOf v k
+  unfolding jobOf bestOf
+  job-with u {b} q =
+      let r : b .value ≡ jobResponse v k = ap (λ (a : Best). a .value) q ∙ response-with v k u in
+      let a : b .at + 1 ≡ jobResource v k = ap (λ (a : Best). a .at + 1) q ∙ add-one _ ∙ resource-with v k u in
+      λ i. record { end = e i; response = r i; resource = a i }
+
+-- The lowest resource is one of them.
+pub best-within : (f : ℕ → ℕ) (n : ℕ) {b : Best} → b ≡ bestOf f n → b .at ≤ n
+unfolding bestOf
+best-within f n q = omega (arith, ap (λ (a : Best). a .at) q, firstAt-within f n)

@@ -1,0 +1,116 @@
+-- What the code lends for one subsystem is its view of the interfaces, with the resources that lead. Assumes nothing.
+use Prim.Native.Nat.{ℕ, _≤_, _<_}
+use native.Mathlib.Omega.{arith}
+use mathlib.Core.Path.{_≡_, sym, ap, ap₂, _∙_}
+use mathlib.Core.List.{List}
+use mathlib.Core.Option.{Option}
+use lib.ListN.{length, getD, take}
+use lib.Seq.{length-take-le}
+use Rattle.lists.specs.Range.{upTo, padded}
+use Rattle.lists.proofs.First.{firstSuch-ext}
+use Rattle.lists.proofs.UpTo.{length-upTo, getD-upTo, upTo-ext, length-padded}
+use Rattle.table.specs.Limits.{most}
+use Rattle.global.specs.declared.Interfaces.{Interfaces}
+use Rattle.global.specs.declared.Row.{Row}
+use Rattle.global.specs.declared.ceilings.Common.{Common}
+use Rattle.global.specs.declared.responses.Own.{Own}
+use Rattle.global.specs.Interfaces.{InterfacesM, holdingAt, meaningOf}
+use Rattle.global.specs.Parts.{count, periods, costs, periodOf, budgetOf, costOf}
+use Rattle.global.specs.Blocking.{outerCeiling, blocking}
+use Rattle.global.specs.View.{View, viewOf, resources, held, ceiling}
+use Rattle.global.specs.Ends.{activePeriod}
+use Rattle.global.specs.Row.{rowFor, rowOf}
+use Rattle.global.specs.Common.{commonOf}
+use Rattle.global.specs.Computed.{seenBy}
+use Rattle.global.specs.Leading.{beats, beatenBy, unbeaten, led, ceilingAt}
+use Rattle.global.specs.Sound.{Sound, Sound-view}
+use Rattle.global.proofs.Slots.{slot, count-of, resources-of, period-of-slot, budget-of-slot, holding-of-slot}
+use Rattle.global.proofs.CommonLaws.{take-padded}
+use Rattle.global.proofs.ViewLaws.{view-sound, resources-seen, held-seen, ceiling-seen}
+use Rattle.global.proofs.LedLaws.{ledView, led-sound, row-led}
+
+-- The used part of an array that is filled up with 0.
+module _ (f : ℕ → ℕ) (n : ℕ) (few : n ≤ most) {a : List ℕ} (e : a ≡ padded f 0 most n) where
+  pub long-enough : n ≤ length a
+  long-enough = omega (arith, ap length e, length-padded f 0 most n few)
+
+  pub used-part : take n a ≡ upTo f n
+  used-part = ap (take n) e ∙ take-padded f n
+
+-- A part of an array has the length that it is cut to.
+pub used-length : (n : ℕ) (a : List ℕ) → n ≤ length a → n ≡ length (take n a)
+used-length n a h = sym (length-take-le n a h)
+
+-- The parts of what the rows share.
+module _ (g : Interfaces) (c : Common) (e : c ≡ commonOf (meaningOf g)) where
+  pub shared-periods : c .periods ≡ padded (periodOf (meaningOf g)) 0 most (g .count)
+  unfolding commonOf
+  shared-periods = ap (λ (x : Common). x .periods) e ∙ ap (padded (periodOf (meaningOf g)) 0 most) (count-of g)
+
+  pub shared-costs : c .costs ≡ padded (costOf (meaningOf g)) 0 most (g .count)
+  unfolding commonOf
+  shared-costs = ap (λ (x : Common). x .costs) e ∙ ap (padded (costOf (meaningOf g)) 0 most) (count-of g)
+
+  pub shared-ceilings : c .ceilings ≡ padded (outerCeiling (meaningOf g)) 0 most (g .resources)
+  unfolding commonOf meaningOf
+  shared-ceilings = ap (λ (x : Common). x .ceilings) e
+
+-- Which resources lead depends on the resources in use alone.
+led-ext : (h h2 c c2 : ℕ → ℕ) (m l : ℕ) → l < m → ((j : ℕ) → j < m → h j ≡ h2 j) → ((j : ℕ) → j < m → c j ≡ c2 j) → led h c m l ≡ led h2 c2 m l
+unfolding led beatenBy
+led-ext h h2 c c2 m l u eh ec =
+    ap₂ (λ (x : ℕ) (o : Option ℕ). unbeaten x o) (eh l u)
+    (firstSuch-ext (beatenBy h c l) (beatenBy h2 c2 l) m 0
+    (λ j a b.
+    let w : j < m = omega arith in
+    ap₂ (λ (p q : ℕ). beats p q j (c l) (h l) l) (ec j w) (eh j w) ∙
+    ap₂ (λ (p q : ℕ). beats (c2 j) (h2 j) j p q l) (ec l u) (eh l u)))
+
+module _ (g : Interfaces) (s : ℕ) (h : s < g .count) where
+  -- What is held of the resources that lead, as the code computes it from the slot.
+  pub led-of-slot : (ceilings : List ℕ) → ceilings ≡ upTo (outerCeiling (meaningOf g)) (g .resources) → (l : ℕ) → l < g .resources → led (holdingAt (slot g s)) (ceilingAt ceilings) (length ceilings) l ≡ led (held (viewOf (meaningOf g) s)) (ceiling (viewOf (meaningOf g) s)) (resources (viewOf (meaningOf g) s)) l
+  unfolding holdingAt ceilingAt meaningOf
+  led-of-slot ceilings e l u =
+      ap (λ (m : ℕ). led (holdingAt (slot g s)) (ceilingAt ceilings) m l) (ap length e ∙ length-upTo _ _) ∙
+      led-ext (holdingAt (slot g s)) (held (viewOf (meaningOf g) s)) (ceilingAt ceilings) (ceiling (viewOf (meaningOf g) s)) (g .resources) l u
+      (λ j w. sym (held-seen (meaningOf g) s j w ∙ holding-of-slot g s j h w))
+      (λ j w.
+      ap (λ (cs : List ℕ). getD cs j 0) e ∙ getD-upTo (outerCeiling (meaningOf g)) (g .resources) j 0 w ∙
+      sym (ceiling-seen (meaningOf g) s j w)) ∙
+      ap (λ (m : ℕ). led (held (viewOf (meaningOf g) s)) (ceiling (viewOf (meaningOf g) s)) m l) (sym (resources-seen (meaningOf g) s))
+
+  -- The same for all resources, cut out of the array.
+  pub led-part : (ceilings : List ℕ) → ceilings ≡ upTo (outerCeiling (meaningOf g)) (g .resources) → {a : List ℕ} → a ≡ padded (led (holdingAt (slot g s)) (ceilingAt ceilings) (length ceilings)) 0 most (length ceilings) → take (g .resources) a ≡ ledView (viewOf (meaningOf g) s) .holdings
+  led-part ceilings e {a} q =
+      let m : length ceilings ≡ g .resources = ap length e ∙ length-upTo _ _ in
+      let r : resources (viewOf (meaningOf g) s) ≡ g .resources = resources-seen (meaningOf g) s ∙ resources-of g in
+      ap₂ take (sym m) q ∙ take-padded (led (holdingAt (slot g s)) (ceilingAt ceilings) (length ceilings)) (length ceilings) ∙
+      ap (upTo (led (holdingAt (slot g s)) (ceilingAt ceilings) (length ceilings))) m ∙
+      upTo-ext (led (holdingAt (slot g s)) (ceilingAt ceilings) (length ceilings)) (led (held (viewOf (meaningOf g) s)) (ceiling (viewOf (meaningOf g) s)) (resources (viewOf (meaningOf g) s))) (g .resources) (led-of-slot ceilings e) ∙
+      ap (upTo (led (held (viewOf (meaningOf g) s)) (ceiling (viewOf (meaningOf g) s)) (resources (viewOf (meaningOf g) s)))) (sym r)
+
+  -- Its own numbers.
+  pub own-is : {b : ℕ} → b ≡ blocking (meaningOf g) s → _≡_ {A = Own} (record { place = s; period = slot g s .period; budget = slot g s .budget; blocking = b }) (record { place = s; period = periodOf (meaningOf g) s; budget = budgetOf (meaningOf g) s; blocking = blocking (meaningOf g) s })
+  own-is e =
+      λ i.
+      record {
+        place = s;
+        period = sym (period-of-slot g s h) i;
+        budget = sym (budget-of-slot g s h) i;
+        blocking = e i;
+      }
+
+-- All of it together.
+module _ (g : InterfacesM) (sound : Sound g) (s : ℕ) (h : s < count g) {p c x r : List ℕ} {own : Own} (ep : p ≡ periods g) (ec : c ≡ costs g) (ex : x ≡ ledView (viewOf g s) .holdings) (er : r ≡ upTo (outerCeiling g) (g .resources)) (eo : own ≡ record { place = s; period = periodOf g s; budget = budgetOf g s; blocking = blocking g s }) where
+  seen-is : seenBy p c x r own ≡ ledView (viewOf g s)
+  unfolding viewOf
+  seen-is = λ i. seenBy (ep i) (ec i) (ex i) (er i) (eo i)
+
+  pub seen-sound : Sound-view (seenBy p c x r own)
+  seen-sound = rw seen-is (led-sound (viewOf g s) (view-sound g sound s h))
+
+  pub seen-row : (failing : ℕ) {w : Row} → w ≡ rowFor (seenBy p c x r own) failing (activePeriod (seenBy p c x r own)) → w ≡ rowOf g s failing
+  unfolding rowOf
+  seen-row failing e =
+      e ∙ ap (λ (v : View). rowFor v failing (activePeriod v)) seen-is ∙
+      row-led (viewOf g s) (view-sound g sound s h) failing

@@ -1,0 +1,65 @@
+-- `global::leading::leading` meets its contract. The loop's invariant: the array is filled up to l. Assumes nothing.
+use Prim.Native.Nat.{_≤_, _-_}
+use native.Mathlib.Omega.{arith}
+use mathlib.Core.Path.{_≡_, sym, ap, _∙_}
+use lib.ListN.{length}
+use denote.Ref.{now}
+use borrow.Author.Needs.{needs}
+use Rattle.lists.specs.Range.{padded}
+use Rattle.lists.proofs.UpTo.{padded-none}
+use Rattle.table.specs.Limits.{most}
+use Rattle.global.specs.Interfaces.{holdingAt}
+use Rattle.global.specs.Leading.{ceilingAt, led}
+use Rattle.global.proofs.Slots.{filled-next}
+use Rattle.global.proofs.leading.leading.Statement.{statement}
+use Rattle.global.proofs.leading.leading.Tie as tie
+
+abbrev Inv-loop : tie.InvT-loop
+Inv-loop i ceilings held₀ l₀ held l = (l ≤ length ceilings) × (held ≡ padded (led (holdingAt i) (ceilingAt ceilings) (length ceilings)) 0 most l)
+
+abbrev μ-loop : tie.MeasureT-loop
+μ-loop i ceilings held₀ l₀ held l = length ceilings - l
+
+loop-holds : tie.Need-loop-holds Inv-loop μ-loop
+loop-holds c = (omega arith, sym (padded-none _ 0 most))
+
+held-if-leading-requires : tie.Need-held-if-leading-requires Inv-loop μ-loop
+held-if-leading-requires c κs = search needs
+
+mul-held : tie.Need-mul-held Inv-loop μ-loop
+mul-held c = search needs
+
+array-write-held : tie.Need-array-write-held Inv-loop μ-loop
+array-write-held c = search needs
+
+add-l : tie.Need-add-l Inv-loop μ-loop
+add-l c = search needs
+
+loop-less : tie.Need-loop-less Inv-loop μ-loop
+loop-less c = search needs
+
+loop-again : tie.Need-loop-again Inv-loop μ-loop
+loop-again c =
+    let h = c .before .before .loop in
+    (omega arith, filled-next _ _ (h .l) _ (h .inv .1) (c .held-if-leading .ensures) (omega arith))
+
+returns : tie.Need-returns Inv-loop μ-loop
+returns c =
+    let s = c .before .before .before in
+    let e : c .before .loop .l ≡ length (now (s .args .ceilings)) = omega arith in
+    c .before .loop .inv .1 ∙ ap (padded _ 0 most) e
+
+pub leading-spec : {M : Type 1} → statement M
+leading-spec =
+    tie.close
+    (tie.spec
+    Inv-loop
+    μ-loop
+    loop-holds
+    held-if-leading-requires
+    mul-held
+    array-write-held
+    add-l
+    loop-less
+    loop-again
+    returns)

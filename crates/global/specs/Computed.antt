@@ -1,0 +1,57 @@
+-- What the code's own structs hold, in the words of steps 9 to 11: the view that slices and numbers make up, the best of a
+-- range, a job, and the worst of the jobs. Assumes nothing.
+use Prim.Native.Nat.{ℕ, _+_, _-_, _≤_, _<_}
+use mathlib.Core.Path.{_≡_}
+use mathlib.Core.List.{List}
+use Rattle.lists.specs.Range.{largestTo}
+use Rattle.least.specs.Demand.{demand, total}
+use Rattle.least.specs.Search.{Search, Comes-down, IsLeast}
+use Rattle.global.specs.declared.responses.Own.{Own}
+use Rattle.global.specs.declared.responses.Best.{Best}
+use Rattle.global.specs.declared.responses.Job.{Job}
+use Rattle.global.specs.declared.responses.Worst.{Worst}
+use Rattle.global.specs.View.{View}
+use Rattle.global.specs.Ends.{budgetEnd}
+use Rattle.global.specs.Response.{firstAt, jobResponse, jobResource, response, worstJob}
+
+-- The view that lists of loads, holding times and ceilings and a subsystem's own numbers make up.
+abbrev pub seenBy : List ℕ → List ℕ → List ℕ → List ℕ → Own → View
+seenBy periods costs holdings ceilings own =
+    record {
+      periods = periods;
+      costs = costs;
+      holdings = holdings;
+      ceilings = ceilings;
+      place = own .place;
+      period = own .period;
+      budget = own .budget;
+      blocking = own .blocking;
+    }
+
+-- The largest of f 0, …, f (n − 1) and the first place that has it.
+unfoldable pub bestOf : (ℕ → ℕ) → ℕ → Best
+bestOf f n = record { value = largestTo f n; at = firstAt f n }
+
+unfoldable pub jobOf : View → ℕ → Job
+jobOf v k = record { end = budgetEnd v k; response = jobResponse v k; resource = jobResource v k }
+
+-- The largest response of the first n jobs.
+unfoldable pub worstOf : View → ℕ → Worst
+worstOf v n = record { response = response v n; job = worstJob v n; resource = jobResource v (worstJob v n) }
+
+-- Once a budget has ended at `end`, what goes on besides the first n loads: `held` ticks more, and what is left of `end`
+-- without what these loads have asked for by then.
+abbrev pub afterwards : List ℕ → List ℕ → ℕ → ℕ → ℕ → ℕ
+afterwards periods costs n end held = end + held - demand periods costs n end
+
+-- What the search for a job end from end + held rests on.
+pub record After (periods costs : List ℕ) (n end held : ℕ) : Type 0 where
+  pub from : 1 ≤ end
+  pub asked : demand periods costs n end ≤ end + held
+  pub search : Search periods costs n (afterwards periods costs n end held) (end + held)
+  pub down : Comes-down (total periods costs n (afterwards periods costs n end held))
+
+-- r is the response where something is held, counted from the release, and 0 else.
+pub record Responded (periods costs : List ℕ) (n end held release r : ℕ) : Type 0 where
+  pub counted : 0 < held → IsLeast (total periods costs n (afterwards periods costs n end held)) (r + release)
+  pub uncounted : held ≤ 0 → r ≡ 0

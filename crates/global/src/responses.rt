@@ -1,0 +1,201 @@
+// Budget ends, job ends and responses of one subsystem, over every job of its active period.
+use least::demand_in;
+use least::least_within;
+use least::wide;
+ghost use mathlib.Core.Path.{_≡_};
+ghost use mathlib.Core.Bool.{cond};
+ghost use Prim.Native.Nat.{_+_, _*_, _^_, _≤_, _<_};
+ghost use lib.Dec.{ltb};
+ghost use lib.ListN.{length};
+ghost use Rattle.global.specs.Response.{responseWith};
+ghost use Rattle.global.specs.Ends.{budgetEnd};
+ghost use Rattle.global.specs.Computed.{seenBy, Responded, After, bestOf, jobOf, worstOf};
+ghost use Rattle.global.specs.Sound.{Sound-view, Counted, Jobs, Budget-from};
+
+// What a subsystem knows of itself: s, P(s), Q(s) and B(s).
+pub struct Own {
+    pub place: usize,
+    pub period: u32,
+    pub budget: u32,
+    pub blocking: u32,
+}
+
+// The largest value so far, and the first place that has it.
+pub struct Best {
+    pub value: u32,
+    pub at: usize,
+}
+
+// A job: where its budget ends, its response, and the lowest resource, counted from 1, with which it has that response.
+pub struct Job {
+    pub end: u32,
+    pub response: u32,
+    pub resource: u32,
+}
+
+// The largest response so far, the first job that has it, and that job's resource.
+pub struct Worst {
+    pub response: u32,
+    pub job: u32,
+    pub resource: u32,
+}
+
+// The better of the best so far and a value at a later place: the earlier stays where they are equal.
+fn better(best: Best, value: u32, at: usize) -> Best
+    ensures { λ r. ⌜ r ≡ cond (ltb (best .value) value) (record { value = value; at = at }) best ⌝ }
+{
+    if best.value < value {
+        Best { value, at }
+    } else {
+        best
+    }
+}
+
+// The worse of the worst job so far and a later one: the earlier stays where they are equal.
+fn worse(worst: Worst, job: Job, k: u32) -> Worst
+    ensures { λ r. ⌜ r ≡ cond (ltb (worst .response) (job .response)) (record { response = job .response; job = k; resource = job .resource }) worst ⌝ }
+{
+    if worst.response < job.response {
+        Worst {
+            response: job.response,
+            job: k,
+            resource: job.resource,
+        }
+    } else {
+        worst
+    }
+}
+
+// The response with one resource of a job that is released at `release` and whose budget ends at `end`: the job ends after
+// `held` ticks more and whatever the first n loads ask for meanwhile. 0 where nothing is held.
+fn response_with(periods: &[u32], costs: &[u32], n: usize, end: u32, held: u32, release: u32) -> u32
+    requires { ⌜ (0 < held → After (now periods) (now costs) n end held) ⌝ }
+    requires { ⌜ release ≤ end ⌝ }
+    ensures { λ r. ⌜ Responded (now (periods .entry)) (now (costs .entry)) n end held release r ⌝ }
+{
+    if held == 0 {
+        return 0;
+    }
+    let asked = demand_in(periods, costs, n, end);
+    let constant = wide(end) + wide(held) - asked;
+    least_within(periods, costs, n, constant, end + held) - release
+}
+
+// The largest response of job k, whose budget ends at `end`, over the resources, and the lowest of these that has it.
+fn best_response(
+    periods: &[u32],
+    costs: &[u32],
+    holdings: &[u32],
+    ceilings: &[usize],
+    own: Own,
+    k: u32,
+    end: u32,
+) -> Best
+    requires { ⌜ Sound-view (seenBy (now periods) (now costs) (now holdings) (now ceilings) own) ⌝ }
+    requires { ⌜ Counted (seenBy (now periods) (now costs) (now holdings) (now ceilings) own) k ⌝ }
+    requires { ⌜ end ≡ budgetEnd (seenBy (now periods) (now costs) (now holdings) (now ceilings) own) k ⌝ }
+    ensures { λ r. ⌜ r ≡ bestOf (responseWith (seenBy (now (periods .entry)) (now (costs .entry)) (now (holdings .entry)) (now (ceilings .entry)) own) k) (length (now (holdings .entry))) ⌝ }
+{
+    let mut best = Best { value: 0, at: 0 };
+    let mut l: usize = 0;
+    while l < holdings.len() {
+        let release = k * own.period;
+        let response = response_with(periods, costs, ceilings[l], end, holdings[l], release);
+        best = better(best, response, l);
+        l += 1;
+    }
+    best
+}
+
+// Job k, whose budget ends at `end`. Where no resource is held, the job ends with its budget.
+fn job_response(
+    periods: &[u32],
+    costs: &[u32],
+    holdings: &[u32],
+    ceilings: &[usize],
+    own: Own,
+    k: u32,
+    end: u32,
+) -> Job
+    requires { ⌜ Sound-view (seenBy (now periods) (now costs) (now holdings) (now ceilings) own) ⌝ }
+    requires { ⌜ Counted (seenBy (now periods) (now costs) (now holdings) (now ceilings) own) k ⌝ }
+    requires { ⌜ end ≡ budgetEnd (seenBy (now periods) (now costs) (now holdings) (now ceilings) own) k ⌝ }
+    ensures { λ r. ⌜ r ≡ jobOf (seenBy (now (periods .entry)) (now (costs .entry)) (now (holdings .entry)) (now (ceilings .entry)) own) k ⌝ }
+{
+    let s = own.place;
+    if costs[s] == own.budget {
+        return Job {
+            end,
+            response: end - k * own.period,
+            resource: 0,
+        };
+    }
+    let best = best_response(periods, costs, holdings, ceilings, own, k, end);
+    Job {
+        end,
+        response: best.value,
+        resource: best.at as u32 + 1,
+    }
+}
+
+// B + k × (Q + X) + Q, with `cost` for Q + X.
+fn ahead_of(own: Own, cost: u32, k: u32) -> u64
+    requires { ⌜ k * cost < 2 ^ 32 ⌝ }
+    ensures { λ r. ⌜ r ≡ own .blocking + k * cost + own .budget ⌝ }
+{
+    wide(own.blocking) + wide(k * cost) + wide(own.budget)
+}
+
+// Job k of the active period. The search for the end of its budget begins at `start`, where it may stand.
+fn next_job(
+    periods: &[u32],
+    costs: &[u32],
+    holdings: &[u32],
+    ceilings: &[usize],
+    own: Own,
+    k: u32,
+    start: u32,
+) -> Job
+    requires { ⌜ Sound-view (seenBy (now periods) (now costs) (now holdings) (now ceilings) own) ⌝ }
+    requires { ⌜ Counted (seenBy (now periods) (now costs) (now holdings) (now ceilings) own) k ⌝ }
+    requires { ⌜ Budget-from (seenBy (now periods) (now costs) (now holdings) (now ceilings) own) k start ⌝ }
+    ensures { λ r. ⌜ r ≡ jobOf (seenBy (now (periods .entry)) (now (costs .entry)) (now (holdings .entry)) (now (ceilings .entry)) own) k ⌝ }
+{
+    let s = own.place;
+    let ahead = ahead_of(own, costs[s], k);
+    let end = least_within(periods, costs, s, ahead, start);
+    job_response(periods, costs, holdings, ceilings, own, k, end)
+}
+
+// The largest response over the n jobs of the active period, the first job that has it, and that job's lowest resource.
+// Each job's search begins where the last one ended, and Q + X further on.
+pub(crate) fn largest_response(
+    periods: &[u32],
+    costs: &[u32],
+    holdings: &[u32],
+    ceilings: &[usize],
+    own: Own,
+    n: u32,
+) -> Worst
+    requires { ⌜ Sound-view (seenBy (now periods) (now costs) (now holdings) (now ceilings) own) ⌝ }
+    requires { ⌜ Jobs (seenBy (now periods) (now costs) (now holdings) (now ceilings) own) n ⌝ }
+    ensures { λ r. ⌜ r ≡ worstOf (seenBy (now (periods .entry)) (now (costs .entry)) (now (holdings .entry)) (now (ceilings .entry)) own) n ⌝ }
+{
+    let s = own.place;
+    let cost = costs[s];
+    let first = next_job(periods, costs, holdings, ceilings, own, 0, 1);
+    let mut worst = Worst {
+        response: first.response,
+        job: 0,
+        resource: first.resource,
+    };
+    let mut start = first.end + cost;
+    let mut k: u32 = 1;
+    while k < n {
+        let job = next_job(periods, costs, holdings, ceilings, own, k, start);
+        worst = worse(worst, job, k);
+        start = job.end + cost;
+        k += 1;
+    }
+    worst
+}

@@ -1,0 +1,129 @@
+// The row of a subsystem.
+use crate::Interfaces;
+use crate::Outcome;
+use crate::Row;
+use crate::blocking::blocking_of;
+use crate::ceilings::Common;
+use crate::leading::leading;
+use crate::responses::Own;
+use crate::responses::largest_response;
+use least::Least;
+use least::least_solution;
+use least::round_up;
+use least::wide;
+use table::Table;
+ghost use mathlib.Core.Path.{_≡_};
+ghost use mathlib.Core.Option.{some};
+ghost use Prim.Native.Nat.{_<_};
+ghost use Rattle.global.specs.Interfaces.{meaningOf};
+ghost use Rattle.global.specs.Ends.{activePeriod, jobs};
+ghost use Rattle.global.specs.Row.{judged, rowWith, rowFor, rowOf};
+ghost use Rattle.global.specs.Common.{commonOf};
+ghost use Rattle.global.specs.Computed.{seenBy};
+ghost use Rattle.global.specs.Sound.{Sound, Sound-view};
+
+// A row fits where its response is within the period, else it is late.
+fn judge(period: u32, response: u32) -> Outcome
+    ensures { λ r. ⌜ r ≡ judged period response ⌝ }
+{
+    if response <= period {
+        Outcome::Fits(response)
+    } else {
+        Outcome::Late(response)
+    }
+}
+
+// The row with an active period.
+fn active_row(
+    periods: &[u32],
+    costs: &[u32],
+    holdings: &[u32],
+    ceilings: &[usize],
+    own: Own,
+    failing: u32,
+    active: u32,
+) -> Row
+    requires { ⌜ Sound-view (seenBy (now periods) (now costs) (now holdings) (now ceilings) own) ⌝ }
+    requires { ⌜ activePeriod (seenBy (now periods) (now costs) (now holdings) (now ceilings) own) ≡ some active ⌝ }
+    ensures { λ r. ⌜ r ≡ rowFor (seenBy (now (periods .entry)) (now (costs .entry)) (now (holdings .entry)) (now (ceilings .entry)) own) failing (some active) ⌝ }
+{
+    let s = own.place;
+    let n = round_up(active, own.period);
+    let worst = largest_response(periods, costs, holdings, ceilings, own, n);
+    Row {
+        holding: costs[s] - own.budget,
+        failing,
+        blocking: own.blocking,
+        active,
+        jobs: n,
+        job: worst.job,
+        resource: worst.resource,
+        outcome: judge(own.period, worst.response),
+    }
+}
+
+// The row from what the subsystem has before it. Without an active period at or below the horizon, X and B stand and the
+// rest is 0.
+fn row_seen(
+    periods: &[u32],
+    costs: &[u32],
+    holdings: &[u32],
+    ceilings: &[usize],
+    own: Own,
+    failing: u32,
+) -> Row
+    requires { ⌜ Sound-view (seenBy (now periods) (now costs) (now holdings) (now ceilings) own) ⌝ }
+    ensures { λ r. ⌜ r ≡ rowFor (seenBy (now (periods .entry)) (now (costs .entry)) (now (holdings .entry)) (now (ceilings .entry)) own) failing (activePeriod (seenBy (now (periods .entry)) (now (costs .entry)) (now (holdings .entry)) (now (ceilings .entry)) own)) ⌝ }
+{
+    let s = own.place;
+    let Least::At(active) = least_solution(
+        periods,
+        costs,
+        s + 1,
+        wide(own.blocking),
+        1,
+        Table::HORIZON,
+    ) else {
+        return Row {
+            holding: costs[s] - own.budget,
+            failing,
+            blocking: own.blocking,
+            active: 0,
+            jobs: 0,
+            job: 0,
+            resource: 0,
+            outcome: Outcome::None,
+        };
+    };
+    active_row(periods, costs, holdings, ceilings, own, failing, active)
+}
+
+// The row of subsystem s, with the number of its first failing task, 0 for none. `common` is what all rows share.
+pub fn row_of(g: Interfaces, common: Common, s: usize, failing: u32) -> Row
+    requires { ⌜ Sound (meaningOf g) ⌝ }
+    requires { ⌜ common ≡ commonOf (meaningOf g) ⌝ }
+    requires { ⌜ s < g .count ⌝ }
+    ensures { λ r. ⌜ r ≡ rowOf (meaningOf g) s failing ⌝ }
+{
+    let n = g.count;
+    let m = g.resources;
+    let i = g.interfaces[s];
+    let periods = common.periods;
+    let costs = common.costs;
+    let ceilings = common.ceilings;
+    let held = leading(i, &ceilings[..m]);
+    let own = Own {
+        place: s,
+        period: i.period,
+        budget: i.budget,
+        blocking: blocking_of(g, &ceilings[..m], s),
+    };
+    row_seen(
+        &periods[..n],
+        &costs[..n],
+        &held[..m],
+        &ceilings[..m],
+        own,
+        failing,
+    )
+}
