@@ -1,0 +1,5 @@
+-- Laws of writing one thing behind another, and of the lines.
+pub mod WroteLaws
+pub mod LineLaws
+pub mod RowsLaws
+pub mod ReportLaws
