@@ -12,6 +12,8 @@ use table::Table;
 mod judge;
 mod number;
 
+pub use number::put_number;
+
 // What can be wrong with the rest of a file, from the current field on. specs/Judge.antt gives document 01's number of
 // each.
 pub enum Fault {

@@ -15,7 +15,7 @@ use rules::Rule;
 use stored::Fault;
 
 // The number of a rule.
-fn rule_number(rule: Rule) -> u32
+pub fn rule_number(rule: Rule) -> u32
     ensures { λ r. ⌜ r ≡ numberOf rule ⌝ }
 {
     match rule {
@@ -28,7 +28,7 @@ fn rule_number(rule: Rule) -> u32
 }
 
 // The number of a fault in a file.
-fn fault_number(fault: Fault) -> u32
+pub fn fault_number(fault: Fault) -> u32
     ensures { λ r. ⌜ r ≡ faultNumber fault ⌝ }
 {
     match fault {
