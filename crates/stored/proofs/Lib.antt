@@ -7,3 +7,5 @@ pub mod ReadSubsystems
 pub mod FileLaws
 pub mod WriteSteps
 pub mod CountLaws
+pub mod FieldLaws
+pub mod ValueLaws
