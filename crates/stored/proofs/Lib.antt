@@ -9,3 +9,6 @@ pub mod WriteSteps
 pub mod CountLaws
 pub mod FieldLaws
 pub mod ValueLaws
+pub mod Stands
+pub mod ReadMeaning
+pub mod WrittenRead
