@@ -12,3 +12,4 @@ pub mod ValueLaws
 pub mod Stands
 pub mod ReadMeaning
 pub mod WrittenRead
+pub mod ReadWritten
