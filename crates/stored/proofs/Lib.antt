@@ -13,3 +13,4 @@ pub mod Stands
 pub mod ReadMeaning
 pub mod WrittenRead
 pub mod ReadWritten
+pub mod FirstBytes
