@@ -14,3 +14,5 @@ pub mod ReadMeaning
 pub mod WrittenRead
 pub mod ReadWritten
 pub mod FirstBytes
+pub mod MoreRange
+pub mod LongInput

@@ -47,6 +47,16 @@ sound-where-unrefused tag due at inRange rest e =
     let s = unrefused-is-sound at (judgeField tag due inRange rest) e in
     sound-means tag due inRange rest (s .0) (s .1) .1
 
+not-left-over : (b : Bool) (r : Refusal) → cond b (some r) none ≡ none → b ≡ false
+not-left-over true r e = absurd (Option·some-ne-none r e)
+not-left-over false r e = refl
+
+-- Where no bytes are left over, the file ends there.
+pub nothing-left-behind : (file : List ℕ) (at : ℕ) → leftOver file at ≡ none → length file ≤ at
+unfolding leftOver
+nothing-left-behind file at e =
+    ltb-false at (length file) (not-left-over (ltb at (length file)) (LeftOver, at) e)
+
 bytes-from : (file : List ℕ) (a : ℕ) → AreBytes file → AreBytes (drop a file)
 bytes-from file a bytes i = rw getD-drop (bytes (a + i))
 
@@ -177,16 +187,8 @@ module _ (file : List ℕ) (bytes : AreBytes file) (unrefused : refusalIn file �
       (sym (flatMap-one-more subsystemBytes (subsystemAt (tableIn file)) s) ∙
       ap (λ (k : ℕ). flatMap subsystemBytes (upTo (subsystemAt (tableIn file)) k)) (add-one s))
 
-  not-left-over : (b : Bool) (r : Refusal) → cond b (some r) none ≡ none → b ≡ false
-  not-left-over true r e = absurd (Option·some-ne-none r e)
-  not-left-over false r e = refl
-
-  nothing-behind : length file ≤ place N
-  unfolding leftOver
-  nothing-behind = ltb-false (place N) (length file) (not-left-over (ltb (place N) (length file)) (LeftOver, place N) (body-unrefused .1))
-
   -- The file is that of the table which is read.
   pub read-is-its-file : fileOf (meaning (tableIn file)) ≡ file
   unfolding tableIn tableTo
   read-is-its-file =
-      sym (file-bytes (tableIn file)) ∙ sym (bytes-to N (le-refl N)) ∙ take-all (place N) file nothing-behind
+      sym (file-bytes (tableIn file)) ∙ sym (bytes-to N (le-refl N)) ∙ take-all (place N) file (nothing-left-behind file (place N) (body-unrefused .1))
