@@ -16,3 +16,4 @@ pub mod ReadWritten
 pub mod FirstBytes
 pub mod MoreRange
 pub mod LongInput
+pub mod RoundTrips
