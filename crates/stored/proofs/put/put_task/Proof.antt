@@ -1,0 +1,76 @@
+use native.Mathlib.Omega.{arith}
+use borrow.Author.Needs.{needs}
+use Rattle.stored.proofs.FileLaws.{length-task-value}
+use Rattle.table.specs.Meaning.{taskM}
+use Rattle.stored.specs.File.{taskValue, taskField}
+use Rattle.stored.specs.Field.{startSize, taskLength}
+use Rattle.stored.proofs.WriteSteps.{free-starts-within, free-has-room, end-within, length-start, field-is-put}
+use Rattle.stored.proofs.put.put_task.Statement.{statement}
+use Rattle.stored.proofs.put.put_task.Tie as tie
+use Rattle.stored.proofs.put.put_task.Reads as reads
+use Rattle.stored.proofs.put.put_task.Lts as lts
+use Rattle.stored.proofs.put.put_start.Reads as put-start-reads
+use Rattle.stored.proofs.put.put_task_value.Reads as put-task-value-reads
+
+-- src/put.rt:86:53
+mul-put-start : tie.Need-mul-put-start
+mul-put-start c = search needs
+
+-- src/put.rt:86:40
+add-put-start : tie.Need-add-put-start
+add-put-start c = search needs
+
+-- src/put.rt:86:9
+put-start-requires : tie.Need-put-start-requires
+put-start-requires c κs = search needs
+
+-- src/put.rt:87:26
+sub-put-task-value : tie.Need-sub-put-task-value
+sub-put-task-value c = free-starts-within (c .before .before .before .before .before .args .free .now) _ (c .before .before .put-start .last .0) (c .before .before .put-start .result) (c .before .before .put-start .ensures) startSize (taskLength (c .before .before .before .before .before .args .m)) (length-start 3 (taskLength (c .before .before .before .before .before .args .m))) (c .before .before .before .before .before .pre .1)
+
+-- src/put.rt:87:26
+part-put-task-value-start : tie.Need-part-put-task-value-start
+part-put-task-value-start c = free-starts-within (c .before .before .before .before .before .args .free .now) _ (c .before .before .put-start .last .0) (c .before .before .put-start .result) (c .before .before .put-start .ensures) startSize (taskLength (c .before .before .before .before .before .args .m)) (length-start 3 (taskLength (c .before .before .before .before .before .args .m))) (c .before .before .before .before .before .pre .1)
+
+-- src/put.rt:87:26
+part-put-task-value-end : tie.Need-part-put-task-value-end
+part-put-task-value-end c = search needs
+
+-- src/put.rt:87:11
+put-task-value-requires : tie.Need-put-task-value-requires
+put-task-value-requires c κs = (c .before .before .before .before .before .before .pre .0, free-has-room (c .before .before .before .before .before .before .args .free .now) _ (c .before .before .before .put-start .last .0) (c .before .before .before .put-start .result) (c .before .before .before .put-start .ensures) startSize (taskLength (c .before .before .before .before .before .before .args .m)) (length-start 3 (taskLength (c .before .before .before .before .before .before .args .m))) (c .before .before .before .before .before .before .pre .1))
+
+-- src/put.rt:87:5
+add-at : tie.Need-add-at
+add-at c =
+    omega (
+      arith,
+      end-within (c .before .before .before .before .before .before .before .before .before .args .free .now) _ (c .before .before .before .before .before .before .put-start .last .0) (c .before .before .before .before .before .before .put-start .result) (c .before .before .before .before .before .before .put-start .ensures) startSize (taskLength (c .before .before .before .before .before .before .before .before .before .args .m)) (length-start 3 (taskLength (c .before .before .before .before .before .before .before .before .before .args .m))) (c .before .before .before .before .before .before .before .before .before .pre .1) _ (c .before .before .put-task-value .last .0) (c .before .before .put-task-value .result) (c .before .before .put-task-value .ensures) (length-task-value (c .before .before .before .before .before .before .before .before .before .args .m) (c .before .before .before .before .before .before .before .before .before .args .task)),
+      c .before .before .before .before .before .before .before .before .before .good .0 .0,
+    )
+
+-- src/put.rt:82:1
+same-length : tie.Need-same-length
+same-length c = search needs
+
+-- src/put.rt:82:1
+returns : tie.Need-returns
+unfolding taskField
+returns c =
+    field-is-put (c .before .before .before .before .before .before .before .before .before .args .free .now) (c .before .before .before .before .before .before .put-start .last .0) (c .before .before .put-task-value .last .0) (taskValue (taskM (c .before .before .before .before .before .before .before .before .before .args .m) (c .before .before .before .before .before .before .before .before .before .args .task))) 3 (c .before .before .before .before .before .before .put-start .result) (taskLength (c .before .before .before .before .before .before .before .before .before .args .m)) (c .before .before .put-task-value .result) (c .before .before .before .before .before .before .put-start .ensures) (length-task-value (c .before .before .before .before .before .before .before .before .before .args .m) (c .before .before .before .before .before .before .before .before .before .args .task))
+    (c .before .before .put-task-value .ensures)
+
+pub put-task-spec : {M : Type 1} → statement M
+put-task-spec =
+    tie.close
+    (tie.spec
+    mul-put-start
+    add-put-start
+    put-start-requires
+    sub-put-task-value
+    part-put-task-value-start
+    part-put-task-value-end
+    put-task-value-requires
+    add-at
+    same-length
+    returns)

@@ -1,0 +1,59 @@
+use native.Mathlib.Omega.{arith}
+use borrow.Author.Needs.{needs}
+use Prim.Native.Nat.{_*_}
+use Rattle.stored.specs.File.{timesBytes}
+use Rattle.stored.specs.Numbers.{numberSize}
+use Rattle.stored.proofs.FileLaws.{length-numberBytes, length-pair}
+use Rattle.stored.proofs.WriteSteps.{free-starts-within, free-has-room, end-within, put-behind}
+use Rattle.stored.proofs.put.put_times.Statement.{statement}
+use Rattle.stored.proofs.put.put_times.Tie as tie
+use Rattle.stored.proofs.put.put_times.Reads as reads
+use Rattle.stored.proofs.put.put_times.Lts as lts
+use Rattle.stored.proofs.number.put_number.Reads as put-number-reads
+use Rattle.stored.proofs.put.put_pair.Reads as put-pair-reads
+
+-- src/put.rt:87:9
+put-pair-requires : tie.Need-put-pair-requires
+put-pair-requires c κs = search needs
+
+-- src/put.rt:88:22
+sub-put-number : tie.Need-sub-put-number
+sub-put-number c = free-starts-within (c .before .before .before .before .before .args .free .now) _ (c .before .before .put-pair .last .0) (c .before .before .put-pair .result) (c .before .before .put-pair .ensures) (2 * numberSize) numberSize (length-pair (c .before .before .before .before .before .args .task .separation) (c .before .before .before .before .before .args .task .work)) (c .before .before .before .before .before .pre)
+
+-- src/put.rt:88:22
+part-put-number-start : tie.Need-part-put-number-start
+part-put-number-start c = free-starts-within (c .before .before .before .before .before .args .free .now) _ (c .before .before .put-pair .last .0) (c .before .before .put-pair .result) (c .before .before .put-pair .ensures) (2 * numberSize) numberSize (length-pair (c .before .before .before .before .before .args .task .separation) (c .before .before .before .before .before .args .task .work)) (c .before .before .before .before .before .pre)
+
+-- src/put.rt:88:22
+part-put-number-end : tie.Need-part-put-number-end
+part-put-number-end c = search needs
+
+-- src/put.rt:88:11
+put-number-requires : tie.Need-put-number-requires
+put-number-requires c κs = free-has-room (c .before .before .before .before .before .before .args .free .now) _ (c .before .before .before .put-pair .last .0) (c .before .before .before .put-pair .result) (c .before .before .before .put-pair .ensures) (2 * numberSize) numberSize (length-pair (c .before .before .before .before .before .before .args .task .separation) (c .before .before .before .before .before .before .args .task .work)) (c .before .before .before .before .before .before .pre)
+
+-- src/put.rt:88:5
+add-at : tie.Need-add-at
+add-at c = omega (arith, end-within (c .before .before .before .before .before .before .before .before .before .args .free .now) _ (c .before .before .before .before .before .before .put-pair .last .0) (c .before .before .before .before .before .before .put-pair .result) (c .before .before .before .before .before .before .put-pair .ensures) (2 * numberSize) numberSize (length-pair (c .before .before .before .before .before .before .before .before .before .args .task .separation) (c .before .before .before .before .before .before .before .before .before .args .task .work)) (c .before .before .before .before .before .before .before .before .before .pre) _ (c .before .before .put-number .last .0) (c .before .before .put-number .result) (c .before .before .put-number .ensures) (length-numberBytes (c .before .before .before .before .before .before .before .before .before .args .task .deadline)), c .before .before .before .before .before .before .before .before .before .good .0 .0)
+
+-- src/put.rt:83:1
+same-length : tie.Need-same-length
+same-length c = search needs
+
+-- src/put.rt:83:1
+returns : tie.Need-returns
+unfolding timesBytes
+returns c = put-behind (c .before .before .before .before .before .before .before .before .before .args .free .now) _ (c .before .before .before .before .before .before .put-pair .last .0) (c .before .before .before .before .before .before .put-pair .result) (c .before .before .before .before .before .before .put-pair .ensures) _ (c .before .before .put-number .last .0) (c .before .before .put-number .result) (c .before .before .put-number .ensures)
+
+pub put-times-spec : {M : Type 1} → statement M
+put-times-spec =
+    tie.close
+    (tie.spec
+    put-pair-requires
+    sub-put-number
+    part-put-number-start
+    part-put-number-end
+    put-number-requires
+    add-at
+    same-length
+    returns)

@@ -1,0 +1,30 @@
+use native.Mathlib.Omega.{arith}
+use borrow.Author.Needs.{needs}
+use Rattle.stored.specs.Read.{refusedAt, wholeUnless}
+use Rattle.stored.specs.declared.FieldAnswer.{FieldAnswer}
+use mathlib.Core.Path.{sym, ap}
+use Rattle.stored.proofs.read.answer_at.Statement.{statement}
+use Rattle.stored.proofs.read.answer_at.Tie as tie
+use Rattle.stored.proofs.read.answer_at.Reads as reads
+use Rattle.stored.proofs.read.answer_at.Lts as lts
+
+-- src/read.rt:31:34
+enum-told : tie.Need-enum-told
+enum-told c = search needs
+
+-- src/read.rt:32:29
+enum-known-answer : tie.Need-enum-known-answer
+enum-known-answer c = search needs
+
+-- src/read.rt:27:1
+returns : tie.Need-returns
+returns c = search needs
+
+-- src/read.rt:27:1
+returns-2 : tie.Need-returns-2
+returns-2 c =
+    sym
+    (ap (λ (a : FieldAnswer). wholeUnless (refusedAt (c .before .before .before .args .at) a)) (c .before .answer .given .1))
+
+pub answer-at-spec : {M : Type 1} → statement M
+answer-at-spec = tie.close (tie.spec enum-told enum-known-answer returns returns-2)
