@@ -3,4 +3,5 @@ pub mod Tables
 pub mod Demand1
 pub mod Demand2
 pub mod Demand3
+pub mod Files
 pub mod Figures
