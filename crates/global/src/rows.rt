@@ -10,7 +10,7 @@ use crate::responses::largest_response;
 use least::Least;
 use least::least_solution;
 use least::round_up;
-use least::wide;
+use numbers::wide;
 use table::Table;
 ghost use mathlib.Core.Path.{_≡_};
 ghost use mathlib.Core.Option.{some};

@@ -53,6 +53,24 @@ module _ {A : Type 0} (g : A → List ℕ) where
       (rw (← add-one n, flatMap-one-more f n, length-append) (omega arith)))
       (eq-or-lt-of-le h)
 
+  -- The bytes of element i stand behind those of the elements before it.
+  pub flatMap-split : (f : ℕ → A) (n i : ℕ) → i < n → (tail : List ℕ) × (flatMap g (upTo f n) ≡ flatMap g (upTo f i) ++ (g (f i) ++ tail))
+  flatMap-split f zero i h = absurd (omega arith)
+  flatMap-split f (suc n) i h =
+      ⊎-elim
+      (λ (e : i ≡ n). (
+        [],
+        rw (e, append-nil (g (f n)), ← add-one n) (flatMap-one-more f n),
+      ))
+      (λ (l : i < n).
+      let r = flatMap-split f n i l in (
+        r .0 ++ g (f n),
+        rw (← add-one n, flatMap-one-more f n, r .1)
+            (append-assoc (flatMap g (upTo f i)) (g (f i) ++ r .0) (g (f n)) ∙
+            ap (λ (l : List ℕ). flatMap g (upTo f i) ++ l) (append-assoc (g (f i)) (r .0) (g (f n)))),
+      ))
+      (eq-or-lt-of-le {n = i} {m = n} (omega arith))
+
   -- Elements of k bytes each.
   pub length-flatMap : (k : ℕ) → ((x : A) → length (g x) ≡ k) → (xs : List A) → length (flatMap g xs) ≡ length xs * k
   unfolding flatMap
