@@ -3,3 +3,5 @@ pub mod WroteLaws
 pub mod LineLaws
 pub mod RowsLaws
 pub mod ReportLaws
+pub mod TextLaws
+pub mod OffsetLaws

@@ -1,6 +1,7 @@
 -- What `check` prints: the text of a report, of a table and of a file, and what a lent buffer holds afterwards. Indices count
 -- from 0; document 01 counts from 1. Assumes nothing.
 use Prim.Native.Nat.{ℕ}
+use mathlib.Core.Path.{_≡_}
 use mathlib.Core.Bool.{cond}
 use mathlib.Core.List.{List, _++_}
 use lib.Dec.{ltb}
@@ -64,3 +65,8 @@ leftBy (Text n) text buf = written buf 0 text
 
 unfoldable pub bufferAfter : List ℕ → List ℕ → List ℕ
 bufferAfter file buf = leftBy (printedOf file (length buf)) (textOf file) buf
+
+-- What a call answers and leaves in the buffer.
+pub record IsPrinted (file before after : List ℕ) (answer : Printed) : Type 0 where
+  pub answered : answer ≡ printedOf file (length before)
+  pub left : after ≡ bufferAfter file before
