@@ -2,7 +2,7 @@
 // nothing of its own. No public function has a `requires`.
 mod decode;
 mod put;
-mod read;
+pub mod read;
 
 use rules::Place;
 use table::Subsystem;

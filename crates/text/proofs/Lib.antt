@@ -5,3 +5,4 @@ pub mod RowsLaws
 pub mod ReportLaws
 pub mod TextLaws
 pub mod OffsetLaws
+pub mod ShapeLaws
