@@ -6,3 +6,4 @@ pub mod ReportLaws
 pub mod TextLaws
 pub mod OffsetLaws
 pub mod ShapeLaws
+pub mod RowShape
