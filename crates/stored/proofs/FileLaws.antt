@@ -6,14 +6,15 @@ use native.Mathlib.Omega.{arith}
 use mathlib.Core.Path.{_≡_, refl, sym, ap, ap₂, _∙_}
 use mathlib.Core.Logic.{_⊎_, ⊎-elim}
 use mathlib.Core.List.{List, [], _∷_, _++_, append-assoc, append-nil, flatMap}
-use lib.ListN.{length, length-append}
+use lib.ListN.{length, getD, length-append}
 use Rattle.lists.specs.Range.{upTo}
 use Rattle.lists.proofs.UpTo.{length-upTo}
 use Rattle.table.specs.declared.Task.{Task}
 use Rattle.table.specs.declared.Subsystem.{Subsystem}
-use Rattle.table.specs.Meaning.{TaskM, SubsystemM, System, accessAt, taskM, taskAt, subsystemM}
+use Rattle.table.specs.declared.Table.{Table}
+use Rattle.table.specs.Meaning.{TaskM, SubsystemM, System, accessAt, taskM, taskAt, subsystemM, subsystemAt, meaning, pastSubsystems}
 use Rattle.table.specs.Parts.{taskCount, subsystemCount}
-use Rattle.table.proofs.Parts.{count-of-tasks}
+use Rattle.table.proofs.Parts.{count-of-tasks, count-of-subsystems}
 use Rattle.stored.specs.Numbers.{numberSize}
 use Rattle.stored.specs.Field.{field, fieldSize, headerTag, headerLength, subsystemTag, subsystemLength, taskTag, taskLength}
 use Rattle.stored.specs.File.{numberBytes, headerValue, subsystemValue, timesBytes, taskValue, taskField, subsystemBytes, fileOf}
@@ -51,6 +52,24 @@ module _ {A : Type 0} (g : A → List ℕ) where
       le-trans (flatMap-grows f k n (omega arith))
       (rw (← add-one n, flatMap-one-more f n, length-append) (omega arith)))
       (eq-or-lt-of-le h)
+
+  -- The bytes of element i stand behind those of the elements before it.
+  pub flatMap-split : (f : ℕ → A) (n i : ℕ) → i < n → (tail : List ℕ) × (flatMap g (upTo f n) ≡ flatMap g (upTo f i) ++ (g (f i) ++ tail))
+  flatMap-split f zero i h = absurd (omega arith)
+  flatMap-split f (suc n) i h =
+      ⊎-elim
+      (λ (e : i ≡ n). (
+        [],
+        rw (e, append-nil (g (f n)), ← add-one n) (flatMap-one-more f n),
+      ))
+      (λ (l : i < n).
+      let r = flatMap-split f n i l in (
+        r .0 ++ g (f n),
+        rw (← add-one n, flatMap-one-more f n, r .1)
+            (append-assoc (flatMap g (upTo f i)) (g (f i) ++ r .0) (g (f n)) ∙
+            ap (λ (l : List ℕ). flatMap g (upTo f i) ++ l) (append-assoc (g (f i)) (r .0) (g (f n)))),
+      ))
+      (eq-or-lt-of-le {n = i} {m = n} (omega arith))
 
   -- Elements of k bytes each.
   pub length-flatMap : (k : ℕ) → ((x : A) → length (g x) ≡ k) → (xs : List A) → length (flatMap g xs) ≡ length xs * k
@@ -148,3 +167,26 @@ length-subsystemBytes m sub =
 
 pub length-header : (n m : ℕ) → length (field headerTag (headerValue n m)) ≡ fieldSize headerLength
 length-header n m = length-field headerTag (headerValue n m) ∙ ap fieldSize (length-headerValue n m)
+
+-- The file of a table: its header, and its subsystems one after the other.
+pub file-bytes : (t : Table) → field headerTag (headerValue (t .count) (t .resources)) ++ flatMap subsystemBytes (upTo (subsystemAt t) (t .count)) ≡ fileOf (meaning t)
+unfolding fileOf meaning
+file-bytes t =
+    ap
+    (λ (n : ℕ). field headerTag (headerValue n (t .resources)) ++ flatMap subsystemBytes (upTo (subsystemAt t) (t .count)))
+    (sym (count-of-subsystems t))
+
+pub length-file-parts : (t : Table) → length (fileOf (meaning t)) ≡ fieldSize headerLength + length (flatMap subsystemBytes (upTo (subsystemAt t) (t .count)))
+length-file-parts t = rw (← file-bytes t, length-append, length-header (t .count) (t .resources)) refl
+
+-- One subsystem more: its own field, and its tasks' fields.
+pub length-one-subsystem-more : (t : Table) (s total n : ℕ) → total ≡ fieldSize headerLength + length (flatMap subsystemBytes (upTo (subsystemAt t) s)) → n ≡ getD (t .subsystems) s pastSubsystems .count → total + (fieldSize subsystemLength + n * fieldSize (taskLength (t .resources))) ≡ fieldSize headerLength + length (flatMap subsystemBytes (upTo (subsystemAt t) (s + 1)))
+unfolding subsystemAt
+length-one-subsystem-more t s total n e f =
+    rw (f, e)
+    (omega (
+      arith,
+      ap length (flatMap-one-more subsystemBytes (subsystemAt t) s),
+      length-append (flatMap subsystemBytes (upTo (subsystemAt t) s)) (subsystemBytes (subsystemAt t s)),
+      length-subsystemBytes (t .resources) (getD (t .subsystems) s pastSubsystems),
+    ))

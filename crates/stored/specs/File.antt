@@ -38,3 +38,10 @@ subsystemBytes u = field subsystemTag (subsystemValue (u .period) (u .budget) (t
 unfoldable pub fileOf : System → List ℕ
 fileOf sys =
     field headerTag (headerValue (subsystemCount sys) (sys .resources)) ++ flatMap subsystemBytes (sys .subsystems)
+
+-- The most bytes that a file has, and so many of an input as suffice for the reader.
+abbrev pub largestFile : ℕ
+largestFile = 3110
+
+abbrev pub enough : ℕ
+enough = 4096

@@ -6,3 +6,4 @@ pub mod Decode
 pub mod Read
 pub mod File
 pub mod Write
+pub mod Held

@@ -1,15 +1,23 @@
-// The stored table: fields of bytes, the reader and the writer. Every function here is proved, and the crate assumes
-// nothing of its own. No public function has a `requires`.
-mod decode;
-mod put;
-pub mod read;
-
+// The stored table: fields of bytes, the reader and the writer. `read_table` reads any bytes; `write_table` writes into
+// any buffer; `file_length` is how many bytes that takes. Every function here is proved, and the crate assumes nothing
+// of its own. No public function has a `requires`.
+ghost use mathlib.Core.Path.{_≡_};
+ghost use Rattle.stored.specs.Judge.{faultNumber};
+ghost use Rattle.stored.specs.Read.{fileRefusal};
 use rules::Place;
 use table::Subsystem;
 use table::Table;
 
+mod decode;
 mod judge;
 mod number;
+mod put;
+mod read;
+mod write;
+
+pub use read::read_table;
+pub use write::file_length;
+pub use write::write_table;
 
 // What can be wrong with the rest of a file, from the current field on. specs/Judge.antt gives document 01's number of
 // each.
@@ -67,4 +75,33 @@ pub enum WriteAnswer {
     Uncounted(Place),
     // The buffer is shorter than the file.
     NoRoom,
+}
+
+// Document 01's number of each fault.
+fn fault_number(fault: Fault) -> u8
+    ensures { λ r. ⌜ r ≡ faultNumber fault ⌝ }
+{
+    match fault {
+        Fault::Short => 11,
+        Fault::OtherTag => 12,
+        Fault::OtherLength => 13,
+        Fault::OutOfRange => 14,
+        Fault::LeftOver => 15,
+    }
+}
+
+// The number and the offset of a read's answer, for a program to print; 0 and 0 where nothing is refused.
+pub fn file_refusal(answer: ReadAnswer) -> FileRefusal
+    ensures { λ r. ⌜ r ≡ fileRefusal answer ⌝ }
+{
+    match answer {
+        ReadAnswer::Whole => FileRefusal {
+            number: 0,
+            offset: 0,
+        },
+        ReadAnswer::Refused(fault, offset) => FileRefusal {
+            number: fault_number(fault),
+            offset,
+        },
+    }
 }

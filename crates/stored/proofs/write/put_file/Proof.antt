@@ -1,0 +1,63 @@
+use native.Mathlib.Omega.{arith}
+use borrow.Author.Needs.{needs}
+use lib.ListN.{length}
+use mathlib.Core.Path.{refl}
+use mathlib.Core.List.{flatMap}
+use Rattle.table.specs.Meaning.{subsystemAt}
+use Rattle.lists.specs.Range.{upTo}
+use Rattle.stored.specs.File.{subsystemBytes}
+use Rattle.stored.specs.Field.{fieldSize, headerLength}
+use Rattle.stored.proofs.WriteSteps.{put-the-same}
+use Rattle.stored.proofs.FileLaws.{length-header, length-file-parts, file-bytes}
+use Rattle.stored.proofs.WriteSteps.{free-starts-within, free-has-room, end-within, put-behind}
+use Rattle.stored.proofs.write.put_file.Statement.{statement}
+use Rattle.stored.proofs.write.put_file.Tie as tie
+use Rattle.stored.proofs.write.put_file.Reads as reads
+use Rattle.stored.proofs.write.put_file.Lts as lts
+use Rattle.stored.proofs.put.put_header.Reads as put-header-reads
+use Rattle.stored.proofs.write.put_subsystems.Reads as put-subsystems-reads
+
+-- src/write.rt:97:9
+put-header-requires : tie.Need-put-header-requires
+put-header-requires c κs = omega (arith, length-file-parts (c .before .before .args .t), c .before .before .pre .1)
+
+-- src/write.rt:98:26
+sub-put-subsystems : tie.Need-sub-put-subsystems
+sub-put-subsystems c = free-starts-within (c .before .before .before .before .before .args .free .now) _ (c .before .before .put-header .last .0) (c .before .before .put-header .result) (c .before .before .put-header .ensures) (fieldSize headerLength) (length (flatMap subsystemBytes (upTo (subsystemAt (c .before .before .before .before .before .args .t)) (c .before .before .before .before .before .args .t .count)))) (length-header (c .before .before .before .before .before .args .t .count) (c .before .before .before .before .before .args .t .resources)) (rw (← length-file-parts (c .before .before .before .before .before .args .t)) (c .before .before .before .before .before .pre .1))
+
+-- src/write.rt:98:26
+part-put-subsystems-start : tie.Need-part-put-subsystems-start
+part-put-subsystems-start c = free-starts-within (c .before .before .before .before .before .args .free .now) _ (c .before .before .put-header .last .0) (c .before .before .put-header .result) (c .before .before .put-header .ensures) (fieldSize headerLength) (length (flatMap subsystemBytes (upTo (subsystemAt (c .before .before .before .before .before .args .t)) (c .before .before .before .before .before .args .t .count)))) (length-header (c .before .before .before .before .before .args .t .count) (c .before .before .before .before .before .args .t .resources)) (rw (← length-file-parts (c .before .before .before .before .before .args .t)) (c .before .before .before .before .before .pre .1))
+
+-- src/write.rt:98:26
+part-put-subsystems-end : tie.Need-part-put-subsystems-end
+part-put-subsystems-end c = search needs
+
+-- src/write.rt:98:11
+put-subsystems-requires : tie.Need-put-subsystems-requires
+put-subsystems-requires c κs = (c .before .before .before .before .before .before .pre .0, free-has-room (c .before .before .before .before .before .before .args .free .now) _ (c .before .before .before .put-header .last .0) (c .before .before .before .put-header .result) (c .before .before .before .put-header .ensures) (fieldSize headerLength) (length (flatMap subsystemBytes (upTo (subsystemAt (c .before .before .before .before .before .before .args .t)) (c .before .before .before .before .before .before .args .t .count)))) (length-header (c .before .before .before .before .before .before .args .t .count) (c .before .before .before .before .before .before .args .t .resources)) (rw (← length-file-parts (c .before .before .before .before .before .before .args .t)) (c .before .before .before .before .before .before .pre .1)))
+
+-- src/write.rt:98:5
+add-at : tie.Need-add-at
+add-at c = omega (arith, end-within (c .before .before .before .before .before .before .before .before .before .args .free .now) _ (c .before .before .before .before .before .before .put-header .last .0) (c .before .before .before .before .before .before .put-header .result) (c .before .before .before .before .before .before .put-header .ensures) (fieldSize headerLength) (length (flatMap subsystemBytes (upTo (subsystemAt (c .before .before .before .before .before .before .before .before .before .args .t)) (c .before .before .before .before .before .before .before .before .before .args .t .count)))) (length-header (c .before .before .before .before .before .before .before .before .before .args .t .count) (c .before .before .before .before .before .before .before .before .before .args .t .resources)) (rw (← length-file-parts (c .before .before .before .before .before .before .before .before .before .args .t)) (c .before .before .before .before .before .before .before .before .before .pre .1)) _ (c .before .before .put-subsystems .last .0) (c .before .before .put-subsystems .result) (c .before .before .put-subsystems .ensures) refl, c .before .before .before .before .before .before .before .before .before .good .0 .0)
+
+-- src/write.rt:92:1
+same-length : tie.Need-same-length
+same-length c = search needs
+
+-- src/write.rt:92:1
+returns : tie.Need-returns
+returns c = put-the-same _ _ _ _ _ (file-bytes (c .before .before .before .before .before .before .before .before .before .args .t)) (put-behind (c .before .before .before .before .before .before .before .before .before .args .free .now) _ (c .before .before .before .before .before .before .put-header .last .0) (c .before .before .before .before .before .before .put-header .result) (c .before .before .before .before .before .before .put-header .ensures) _ (c .before .before .put-subsystems .last .0) (c .before .before .put-subsystems .result) (c .before .before .put-subsystems .ensures))
+
+pub put-file-spec : {M : Type 1} → statement M
+put-file-spec =
+    tie.close
+    (tie.spec
+    put-header-requires
+    sub-put-subsystems
+    part-put-subsystems-start
+    part-put-subsystems-end
+    put-subsystems-requires
+    add-at
+    same-length
+    returns)

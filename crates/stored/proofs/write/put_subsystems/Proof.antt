@@ -1,0 +1,108 @@
+use borrow.Author.Needs.{needs}
+use Prim.Native.Nat.{_≤_, _-_}
+use mathlib.Core.Path.{refl}
+use mathlib.Core.List.{flatMap}
+use Rattle.table.specs.Meaning.{subsystemAt}
+use Rattle.lists.specs.Range.{upTo}
+use Rattle.stored.specs.Write.{IsPut}
+use Rattle.stored.specs.File.{subsystemBytes}
+use Rattle.stored.proofs.WriteSteps.{put-keeps-length, list-begins, list-starts-within, list-has-room, list-ends-within, list-goes-on, list-ends}
+use native.Mathlib.Omega.{arith}
+use Rattle.stored.proofs.write.put_subsystems.Statement.{statement}
+use Rattle.stored.proofs.write.put_subsystems.Tie as tie
+use Rattle.stored.proofs.write.put_subsystems.Reads as reads
+use Rattle.stored.proofs.write.put_subsystems.Lts as lts
+use Rattle.stored.proofs.put.put_subsystem.Reads as put-subsystem-reads
+
+abbrev Inv-loop : tie.InvT-loop
+Inv-loop free₀ t n m at₀ s₀ free at s = (s ≤ n) × IsPut (flatMap subsystemBytes (upTo (subsystemAt t) s)) free₀ free at
+
+abbrev μ-loop : tie.MeasureT-loop
+μ-loop free₀ t n m at₀ s₀ free at s = n - s
+
+-- src/write.rt:79:13
+cast-n : tie.Need-cast-n Inv-loop μ-loop
+cast-n c = search needs
+
+-- src/write.rt:80:13
+cast-m : tie.Need-cast-m Inv-loop μ-loop
+cast-m c = search needs
+
+-- src/write.rt:83:5
+loop-holds : tie.Need-loop-holds Inv-loop μ-loop
+loop-holds c = (search needs, list-begins subsystemBytes (subsystemAt (c .before .args .t2)) (c .before .args .free .now))
+
+-- src/write.rt:84:19
+mul-sub : tie.Need-mul-sub Inv-loop μ-loop
+mul-sub c = search needs
+
+-- src/write.rt:84:19
+element-copy-out-sub : tie.Need-element-copy-out-sub Inv-loop μ-loop
+element-copy-out-sub c = search needs
+
+-- src/write.rt:85:29
+sub-put-subsystem : tie.Need-sub-put-subsystem Inv-loop μ-loop
+sub-put-subsystem c = list-starts-within subsystemBytes (subsystemAt (c .before .before .before .before .args .t2)) (c .before .before .before .before .args .free .now) (c .before .before .before .before .args .t2 .count) (c .before .before .loop .s) (c .before .before .loop .at) (c .before .before .loop .free) (c .before .loop-test .taken) (c .before .before .before .before .pre .1) (c .before .before .loop .inv .1)
+
+-- src/write.rt:85:29
+part-put-subsystem-start : tie.Need-part-put-subsystem-start Inv-loop μ-loop
+part-put-subsystem-start c = list-starts-within subsystemBytes (subsystemAt (c .before .before .before .before .args .t2)) (c .before .before .before .before .args .free .now) (c .before .before .before .before .args .t2 .count) (c .before .before .loop .s) (c .before .before .loop .at) (c .before .before .loop .free) (c .before .loop-test .taken) (c .before .before .before .before .pre .1) (c .before .before .loop .inv .1)
+
+-- src/write.rt:85:29
+part-put-subsystem-end : tie.Need-part-put-subsystem-end Inv-loop μ-loop
+part-put-subsystem-end c = search needs
+
+-- src/write.rt:85:15
+put-subsystem-requires : tie.Need-put-subsystem-requires Inv-loop μ-loop
+unfolding subsystemAt
+put-subsystem-requires c κs =
+    let counts = c .before .before .before .before .before .pre .0 in
+    ((counts .resources-most, counts .counted (c .before .before .before .loop .s) (c .before .before .loop-test .taken) .tasks-most), list-has-room subsystemBytes (subsystemAt (c .before .before .before .before .before .args .t2)) (c .before .before .before .before .before .args .free .now) (c .before .before .before .before .before .args .t2 .count) (c .before .before .before .loop .s) (c .before .before .before .loop .at) (c .before .before .before .loop .free) (c .before .before .loop-test .taken) (c .before .before .before .before .before .pre .1) (c .before .before .before .loop .inv .1) _ refl)
+
+-- src/write.rt:85:9
+add-at : tie.Need-add-at Inv-loop μ-loop
+unfolding subsystemAt
+add-at c = omega (arith, list-ends-within subsystemBytes (subsystemAt (c .before .before .before .before .before .before .before .before .args .t2)) (c .before .before .before .before .before .before .before .before .args .free .now) (c .before .before .before .before .before .before .before .before .args .t2 .count) (c .before .before .before .before .before .before .loop .s) (c .before .before .before .before .before .before .loop .at) (c .before .before .before .before .before .before .loop .free) (c .before .before .before .before .before .loop-test .taken) (c .before .before .before .before .before .before .before .before .pre .1) (c .before .before .before .before .before .before .loop .inv .1) (c .before .before .put-subsystem .last .0) (c .before .before .put-subsystem .result) (c .before .before .put-subsystem .ensures), c .before .before .before .before .before .before .before .before .good .0 .0)
+
+-- src/write.rt:86:9
+add-s : tie.Need-add-s Inv-loop μ-loop
+add-s c = search needs
+
+-- src/write.rt:83:5
+loop-less : tie.Need-loop-less Inv-loop μ-loop
+loop-less c = search needs
+
+-- src/write.rt:83:5
+loop-again : tie.Need-loop-again Inv-loop μ-loop
+unfolding subsystemAt
+loop-again c = (search needs, list-goes-on subsystemBytes (subsystemAt (c .before .before .before .before .before .before .before .before .args .t2)) (c .before .before .before .before .before .before .before .before .args .free .now) (c .before .before .before .before .before .before .before .before .args .t2 .count) (c .before .before .before .before .before .before .loop .s) (c .before .before .before .before .before .before .loop .at) (c .before .before .before .before .before .before .loop .free) (c .before .before .before .before .before .loop-test .taken) (c .before .before .before .before .before .before .before .before .pre .1) (c .before .before .before .before .before .before .loop .inv .1) (c .before .before .put-subsystem .last .0) (c .before .before .put-subsystem .result) (c .before .before .put-subsystem .ensures))
+
+-- src/write.rt:74:1
+same-length : tie.Need-same-length Inv-loop μ-loop
+same-length c = put-keeps-length (c .before .before .before .args .free .now) _ (c .before .loop .free) (c .before .loop .at) (list-ends subsystemBytes (subsystemAt (c .before .before .before .args .t2)) (c .before .before .before .args .free .now) (c .before .before .before .args .t2 .count) (c .before .loop .s) (c .before .loop .at) (c .before .loop .free) (c .before .loop .inv .0) (c .loop-test .left) (c .before .loop .inv .1)) (c .before .before .before .pre .1)
+
+-- src/write.rt:74:1
+returns : tie.Need-returns Inv-loop μ-loop
+returns c = list-ends subsystemBytes (subsystemAt (c .before .before .before .args .t2)) (c .before .before .before .args .free .now) (c .before .before .before .args .t2 .count) (c .before .loop .s) (c .before .loop .at) (c .before .loop .free) (c .before .loop .inv .0) (c .loop-test .left) (c .before .loop .inv .1)
+
+pub put-subsystems-spec : {M : Type 1} → statement M
+put-subsystems-spec =
+    tie.close
+    (tie.spec
+    Inv-loop
+    μ-loop
+    cast-n
+    cast-m
+    loop-holds
+    mul-sub
+    element-copy-out-sub
+    sub-put-subsystem
+    part-put-subsystem-start
+    part-put-subsystem-end
+    put-subsystem-requires
+    add-at
+    add-s
+    loop-less
+    loop-again
+    same-length
+    returns)
