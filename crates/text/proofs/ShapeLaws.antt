@@ -14,6 +14,7 @@ use Rattle.lines.specs.Decimal.{digitByte, digits, decimal}
 use Rattle.lines.specs.Words.{word}
 use Rattle.lines.proofs.DecimalLaws.{digits-of-small, digits-of-large}
 use Rattle.rules.specs.Refusal.{Refusal}
+use Rattle.stored.specs.declared.FileRefusal.{FileRefusal}
 use Rattle.text.specs.Lines.{figure, refusedFile, refusedTable, verdict}
 use Rattle.text.specs.Shape.{space, LF, shown, IsWord, AreWords, last, more, parted, line}
 
@@ -87,8 +88,8 @@ letters name h g = record { some-byte = h; all-shown = g }
 ------------------------------------------------------------------------
 -- The words of each line
 
-abbrev pub refusedFileWords : ℕ → ℕ → List (List ℕ)
-refusedFileWords number offset = word "refused" ∷ decimal number ∷ word "at" ∷ decimal offset ∷ []
+abbrev pub refusedFileWords : FileRefusal → List (List ℕ)
+refusedFileWords r = word "refused" ∷ decimal (r .number) ∷ word "at" ∷ decimal (r .offset) ∷ []
 
 abbrev pub refusedTableWords : Refusal → List (List ℕ)
 refusedTableWords r =
@@ -98,17 +99,17 @@ refused-start : (n : ℕ) → figure "refused " n ≡ parted (word "refused" ∷
 unfolding figure word parted
 refused-start n = refl
 
-pub refusedFile-line : (number offset : ℕ) → refusedFile number offset ≡ line (refusedFileWords number offset)
+pub refusedFile-line : (r : FileRefusal) → refusedFile r ≡ line (refusedFileWords r)
 unfolding refusedFile figure word
-refusedFile-line number offset =
-    line-ends (refusedFileWords number offset)
-    (figure-behind (word "refused") (decimal number ∷ []) " at " (word "at") offset refl (refused-start number))
+refusedFile-line r =
+    line-ends (refusedFileWords r)
+    (figure-behind (word "refused") (decimal (r .number) ∷ []) " at " (word "at") (r .offset) refl (refused-start (r .number)))
 
-pub refusedFile-words : (number offset : ℕ) → AreWords (refusedFileWords number offset)
+pub refusedFile-words : (r : FileRefusal) → AreWords (refusedFileWords r)
 unfolding word shown
-refusedFile-words number offset =
+refusedFile-words r =
     more (letters "refused" (omega arith) refl)
-    (more (number-is-word number) (more (letters "at" (omega arith) refl) (last (number-is-word offset))))
+    (more (number-is-word (r .number)) (more (letters "at" (omega arith) refl) (last (number-is-word (r .offset)))))
 
 pub refusedTable-line : (r : Refusal) → refusedTable r ≡ line (refusedTableWords r)
 unfolding refusedTable figure word

@@ -21,8 +21,8 @@ use Rattle.stored.specs.declared.Fault.{Fault}
 use Rattle.stored.specs.declared.ReadAnswer.{ReadAnswer}
 use Rattle.stored.specs.declared.ReadAnswer.the-variants.{Whole, Refused as RefusedFile}
 use Rattle.stored.specs.declared.Reading.{Reading}
-use Rattle.stored.specs.Judge.{faultNumber}
-use Rattle.stored.specs.Read.{readOf}
+use Rattle.stored.specs.declared.FileRefusal.{FileRefusal}
+use Rattle.stored.specs.Read.{fileRefusal, readOf}
 use Rattle.text.specs.declared.Printed.{Printed}
 use Rattle.text.specs.declared.Printed.the-variants.{Text, NoRoom}
 use Rattle.text.specs.Lines.{refusedFile}
@@ -61,9 +61,10 @@ module _ (t : Table) (report : Report) (n : ℕ) (e : report ≡ reportOf (meani
 -- A file
 
 module _ (file : List ℕ) (reading : Reading) (e : reading ≡ readOf file) where
-  pub text-of-refused-file : (f : Fault) (at : ℕ) → reading .answer ≡ RefusedFile f at → refusedFile (faultNumber f) at ≡ textOf file
+  pub text-of-refused-file : (f : Fault) (at : ℕ) (r : FileRefusal) → reading .answer ≡ RefusedFile f at → r ≡ fileRefusal (reading .answer) → refusedFile r ≡ textOf file
   unfolding textOf
-  text-of-refused-file f at g =
+  text-of-refused-file f at r g h =
+      ap refusedFile (h ∙ ap fileRefusal g) ∙
       sym
       (ap (λ (a : ReadAnswer). readText a (readOf file .table)) (sym (ap (λ (r : Reading). r .answer) e) ∙ g))
 

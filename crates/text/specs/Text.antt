@@ -19,8 +19,7 @@ use Rattle.report.specs.declared.Report.{Report}
 use Rattle.report.specs.Report.{pastRows, reportOf}
 use Rattle.stored.specs.declared.ReadAnswer.{ReadAnswer}
 use Rattle.stored.specs.declared.ReadAnswer.the-variants.{Whole, Refused as RefusedFile}
-use Rattle.stored.specs.Judge.{faultNumber}
-use Rattle.stored.specs.Read.{readOf}
+use Rattle.stored.specs.Read.{fileRefusal, readOf}
 use Rattle.text.specs.declared.Printed.{Printed}
 use Rattle.text.specs.declared.Printed.the-variants.{Text, NoRoom}
 use Rattle.text.specs.Lines.{refusedFile, refusedTable, verdict, rowLine}
@@ -44,7 +43,7 @@ tableText sys = reportText (reportOf sys) (subsystemCount sys)
 
 -- The text of a file that was read so: its refusal, or else the text of its table.
 abbrev pub readText : ReadAnswer → Table → List ℕ
-readText (RefusedFile f at) t = refusedFile (faultNumber f) at
+readText (RefusedFile f at) t = refusedFile (fileRefusal (RefusedFile f at))
 readText Whole t = tableText (meaning t)
 
 -- The text of a file.

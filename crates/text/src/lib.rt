@@ -89,11 +89,11 @@ fn put_text(file: &[u8], buf: &mut [u8]) -> usize
     requires { ⌜ textRoom ≤ length (now buf) ⌝ }
     ensures { λ r. ⌜ Wrote (now (buf .entry)) 0 (textOf (now (file .entry))) (now (buf .exit)) r ⌝ }
 {
-    let reading = stored::read::read_table(file);
+    let reading = stored::read_table(file);
     let answer = reading.answer;
-    if let ReadAnswer::Refused(fault, offset) = answer {
-        return put_refused_file(buf, 0, fault, offset as u32);
-    }
+    let ReadAnswer::Whole = answer else {
+        return put_refused_file(buf, 0, stored::file_refusal(answer));
+    };
     let table = reading.table;
     put_table(buf, table)
 }
