@@ -3,3 +3,7 @@ pub mod WroteLaws
 pub mod LineLaws
 pub mod RowsLaws
 pub mod ReportLaws
+pub mod TextLaws
+pub mod OffsetLaws
+pub mod ShapeLaws
+pub mod RowShape

@@ -6,6 +6,7 @@ use mathlib.Core.List.{List, _++_}
 use Rattle.lines.specs.Decimal.{decimal}
 use Rattle.lines.specs.Words.{word}
 use Rattle.rules.specs.Refusal.{Refusal}
+use Rattle.stored.specs.declared.FileRefusal.{FileRefusal}
 use Rattle.global.specs.declared.Outcome.{Outcome}
 use Rattle.global.specs.declared.Outcome.the-variants.{Fits, Late, None}
 use Rattle.global.specs.declared.Row.{Row}
@@ -16,8 +17,8 @@ unfoldable pub figure : String → ℕ → List ℕ
 figure label n = word label ++ decimal n
 
 -- refused NUMBER at OFFSET
-unfoldable pub refusedFile : ℕ → ℕ → List ℕ
-refusedFile number offset = figure "refused " number ++ figure " at " offset ++ word "\n"
+unfoldable pub refusedFile : FileRefusal → List ℕ
+refusedFile r = figure "refused " (r .number) ++ figure " at " (r .offset) ++ word "\n"
 
 -- refused NUMBER at SUBSYSTEM TASK
 unfoldable pub refusedTable : Refusal → List ℕ

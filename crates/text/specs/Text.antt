@@ -1,6 +1,7 @@
 -- What `check` prints: the text of a report, of a table and of a file, and what a lent buffer holds afterwards. Indices count
 -- from 0; document 01 counts from 1. Assumes nothing.
 use Prim.Native.Nat.{ℕ}
+use mathlib.Core.Path.{_≡_}
 use mathlib.Core.Bool.{cond}
 use mathlib.Core.List.{List, _++_}
 use lib.Dec.{ltb}
@@ -18,8 +19,7 @@ use Rattle.report.specs.declared.Report.{Report}
 use Rattle.report.specs.Report.{pastRows, reportOf}
 use Rattle.stored.specs.declared.ReadAnswer.{ReadAnswer}
 use Rattle.stored.specs.declared.ReadAnswer.the-variants.{Whole, Refused as RefusedFile}
-use Rattle.stored.specs.Judge.{faultNumber}
-use Rattle.stored.specs.Read.{readOf}
+use Rattle.stored.specs.Read.{fileRefusal, readOf}
 use Rattle.text.specs.declared.Printed.{Printed}
 use Rattle.text.specs.declared.Printed.the-variants.{Text, NoRoom}
 use Rattle.text.specs.Lines.{refusedFile, refusedTable, verdict, rowLine}
@@ -43,7 +43,7 @@ tableText sys = reportText (reportOf sys) (subsystemCount sys)
 
 -- The text of a file that was read so: its refusal, or else the text of its table.
 abbrev pub readText : ReadAnswer → Table → List ℕ
-readText (RefusedFile f at) t = refusedFile (faultNumber f) at
+readText (RefusedFile f at) t = refusedFile (fileRefusal (RefusedFile f at))
 readText Whole t = tableText (meaning t)
 
 -- The text of a file.
@@ -64,3 +64,8 @@ leftBy (Text n) text buf = written buf 0 text
 
 unfoldable pub bufferAfter : List ℕ → List ℕ → List ℕ
 bufferAfter file buf = leftBy (printedOf file (length buf)) (textOf file) buf
+
+-- What a call answers and leaves in the buffer.
+pub record IsPrinted (file before after : List ℕ) (answer : Printed) : Type 0 where
+  pub answered : answer ≡ printedOf file (length before)
+  pub left : after ≡ bufferAfter file before

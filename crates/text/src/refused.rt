@@ -1,9 +1,8 @@
 // The lines of refusal: of a refused table, and of a refused file. That there is room for a line is the caller's to show.
 ghost use mathlib.Core.Path.{_≡_};
-ghost use Prim.Native.Nat.{_+_, _≤_};
+ghost use Prim.Native.Nat.{_+_, _^_, _≤_, _<_};
 ghost use lib.ListN.{length};
 ghost use Rattle.rules.specs.Refusal.{numberOf, refusal};
-ghost use Rattle.stored.specs.Judge.{faultNumber};
 ghost use Rattle.text.specs.Lines.{refusedTable, refusedFile};
 ghost use Rattle.text.specs.Room.{lineMost};
 ghost use Rattle.text.specs.Wrote.{Wrote};
@@ -12,7 +11,7 @@ use lines::put_bytes;
 use rules::Judged;
 use rules::Place;
 use rules::Rule;
-use stored::Fault;
+use stored::FileRefusal;
 
 // The number of a rule.
 pub fn rule_number(rule: Rule) -> u32
@@ -27,19 +26,6 @@ pub fn rule_number(rule: Rule) -> u32
     }
 }
 
-// The number of a fault in a file.
-pub fn fault_number(fault: Fault) -> u32
-    ensures { λ r. ⌜ r ≡ faultNumber fault ⌝ }
-{
-    match fault {
-        Fault::Short => 11,
-        Fault::OtherTag => 12,
-        Fault::OtherLength => 13,
-        Fault::OutOfRange => 14,
-        Fault::LeftOver => 15,
-    }
-}
-
 // The line of a table that is refused by a rule, at a place.
 pub fn put_refused_table(buf: &mut [u8], at: usize, rule: Rule, place: Place) -> usize
     requires { ⌜ at + lineMost ≤ length (now buf) ⌝ }
@@ -51,12 +37,12 @@ pub fn put_refused_table(buf: &mut [u8], at: usize, rule: Rule, place: Place) ->
     put_bytes(buf, task, b"\n")
 }
 
-// The line of a file that is refused for a fault, at an offset.
-pub fn put_refused_file(buf: &mut [u8], at: usize, fault: Fault, offset: u32) -> usize
-    requires { ⌜ at + lineMost ≤ length (now buf) ⌝ }
-    ensures { λ r. ⌜ Wrote (now (buf .entry)) at (refusedFile (faultNumber fault) offset) (now (buf .exit)) r ⌝ }
+// The line of a refused file.
+pub fn put_refused_file(buf: &mut [u8], at: usize, refusal: FileRefusal) -> usize
+    requires { ⌜ (refusal .offset < 2 ^ 32) × (at + lineMost ≤ length (now buf)) ⌝ }
+    ensures { λ r. ⌜ Wrote (now (buf .entry)) at (refusedFile refusal) (now (buf .exit)) r ⌝ }
 {
-    let number = put_figure(buf, at, b"refused ", fault_number(fault));
-    let place = put_figure(buf, number, b" at ", offset);
-    put_bytes(buf, place, b"\n")
+    let number = put_figure(buf, at, b"refused ", refusal.number as u32);
+    let offset = put_figure(buf, number, b" at ", refusal.offset as u32);
+    put_bytes(buf, offset, b"\n")
 }

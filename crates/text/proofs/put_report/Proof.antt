@@ -45,7 +45,7 @@ put-verdict-requires c κs = search needs
 -- src/lib.rt:68:5
 put-rows-requires : tie.Need-put-rows-requires
 put-rows-requires c κs =
-    (omega arith, omega (arith, run-room 1280 (omega (arith, c .before .before .before .before .before .before .before .before .before .pre .1)) (behind-verdict (c .before .before .before .before))))
+    (c .before .before .before .before .before .before .before .before .before .pre .0 (c .before .before .before .before .before .before .enum-told .given .1), omega (arith, run-room 1280 (omega (arith, c .before .before .before .before .before .before .before .before .before .pre .1)) (behind-verdict (c .before .before .before .before))))
 
 -- src/lib.rt:58:1
 same-length-2 : tie.Need-same-length-2
