@@ -20,7 +20,7 @@ use Rattle.stored.proofs.WriteSteps.{put-the-same}
 use Rattle.bay.specs.declared.Judgement.{Judgement}
 use Rattle.bay.specs.Judgement.{tableJudgement}
 use Rattle.bay.specs.Figures.{outcomeNumber, flag, rowFigures, headFigures, figures, counted, figuresOf}
-use Rattle.bay.specs.Lent.{headCount, rowCount, reportSize}
+use Rattle.bay.specs.Lent.{headCount, rowCount, reportSize, placeSize, placeBytes}
 use Rattle.bay.proofs.Elements.{elementAt, all-elements}
 
 ------------------------------------------------------------------------
@@ -94,6 +94,10 @@ length-rowBytes row = length-accesses (rowFigures row) ∙ ap (λ (k : ℕ). num
 pub length-headBytes : (j : Judgement) (accepted : Bool) (n : ℕ) → length (flatMap numberBytes (headFigures j accepted n)) ≡ numberSize * headCount
 length-headBytes j accepted n =
     length-accesses (headFigures j accepted n) ∙ ap (λ (k : ℕ). numberSize * k) (count-of-head j accepted n)
+
+pub length-placeBytes : (j : Judgement) → length (placeBytes j) ≡ placeSize
+unfolding placeBytes
+length-placeBytes j = length-accesses (j .first ∷ j .second ∷ [])
 
 ------------------------------------------------------------------------
 -- Row by row

@@ -2,3 +2,5 @@
 pub mod Elements
 pub mod FigureLaws
 pub mod JudgementLaws
+pub mod LentLaws
+pub mod CountLaws

@@ -2,7 +2,7 @@
 -- Assumes nothing.
 use Prim.Native.Nat.{ℕ, _+_, _*_}
 use mathlib.Core.Bool.{cond}
-use mathlib.Core.List.{List, _++_, flatMap}
+use mathlib.Core.List.{List, [], _∷_, flatMap}
 use lib.Dec.{ltb}
 use lib.ListN.{length}
 use Rattle.table.specs.Limits.{most}
@@ -15,6 +15,9 @@ use Rattle.stored.specs.Numbers.{numberSize}
 use Rattle.stored.specs.File.{numberBytes}
 use Rattle.stored.specs.Read.{readOf}
 use Rattle.stored.specs.Write.{written, writeOf, bufferAfter}
+use Rattle.text.specs.declared.Printed.{Printed}
+use Rattle.text.specs.declared.Printed.the-variants.{Text, NoRoom as NoText}
+use Rattle.text.specs.Text.{printedOf}
 use Rattle.bay.specs.declared.Judgement.{Judgement}
 use Rattle.bay.specs.Judgement.{judgementOf}
 use Rattle.bay.specs.Figures.{figuresIn}
@@ -28,13 +31,24 @@ unfoldable pub filled : ℕ → ℕ → ℕ
 filled size room = cond (ltb room size) 0 size
 
 ------------------------------------------------------------------------
+-- The text
+
+-- How many bytes of text were printed.
+abbrev pub printedBy : Printed → ℕ
+printedBy (Text n) = n
+printedBy NoText = 0
+
+unfoldable pub textSize : List ℕ → ℕ → ℕ
+textSize file room = printedBy (printedOf file room)
+
+------------------------------------------------------------------------
 -- The place of a judgement
 
 abbrev pub placeSize : ℕ
 placeSize = 2 * numberSize
 
 unfoldable pub placeBytes : Judgement → List ℕ
-placeBytes j = numberBytes (j .first) ++ numberBytes (j .second)
+placeBytes j = flatMap numberBytes (j .first ∷ j .second ∷ [])
 
 unfoldable pub placeAfter : List ℕ → List ℕ → List ℕ
 placeAfter file buf = lent placeSize (placeBytes (judgementOf file)) buf

@@ -8,14 +8,17 @@ ghost use Rattle.table.specs.Limits.{most};
 ghost use Rattle.stored.specs.Numbers.{numberSize};
 ghost use Rattle.stored.specs.File.{numberBytes};
 ghost use Rattle.stored.specs.Write.{IsPut};
-ghost use Rattle.bay.specs.Figures.{outcomeNumber, flag, rowFigures, headFigures, figures, counted, figuresOf};
-ghost use Rattle.bay.specs.Lent.{headCount, rowCount, reportSize};
+ghost use Rattle.bay.specs.Figures.{outcomeNumber, flag, rowFigures, headFigures, figures, counted, figuresOf, figuresIn};
+ghost use Rattle.bay.specs.Lent.{headCount, rowCount, reportSize, placeSize, placeBytes};
 use crate::Judgement;
+use crate::judging::file_judgement;
 use crate::judging::table_judgement;
 use global::Outcome;
 use global::Row;
 use report::Report;
+use report::rows::no_row;
 use rules::Judged;
+use stored::ReadAnswer;
 use stored::put_number;
 use table::Table;
 use text::response;
@@ -133,4 +136,28 @@ pub fn put_report(free: &mut [u8], report: Report, n: u8) -> usize
     let j = table_judgement(judged);
     let count = stated_count(judged, n);
     put_figures(free, j, report.accepted, count, rows)
+}
+
+// The figures of any file. A refused file has its judgement and no figure.
+pub fn put_file(free: &mut [u8], file: &[u8]) -> usize
+    requires { ⌜ reportSize ≤ length (now free) ⌝ }
+    ensures { λ r. ⌜ IsPut (flatMap numberBytes (figuresIn (now (file .entry)))) (now (free .entry)) (now (free .exit)) r ⌝ }
+{
+    let reading = stored::read_table(file);
+    let answer = reading.answer;
+    let ReadAnswer::Whole = answer else {
+        let j = file_judgement(stored::file_refusal(answer));
+        return put_figures(free, j, false, 0, [no_row(); Table::MOST]);
+    };
+    let t = reading.table;
+    put_report(free, report::analyse(t), t.count)
+}
+
+// The two numbers of a judgement's place.
+pub fn put_place(free: &mut [u8], j: Judgement) -> usize
+    requires { ⌜ placeSize ≤ length (now free) ⌝ }
+    ensures { λ r. ⌜ IsPut (placeBytes j) (now (free .entry)) (now (free .exit)) r ⌝ }
+{
+    let numbers = [j.first, j.second];
+    put_numbers(free, &numbers)
 }

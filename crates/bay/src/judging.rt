@@ -1,10 +1,11 @@
 // The judgement of a file: number and place. Assumes nothing.
 ghost use mathlib.Core.Path.{_≡_};
 ghost use Prim.Native.Nat.{_<_, _^_};
-ghost use Rattle.bay.specs.Judgement.{fileJudgement, tableJudgement};
+ghost use Rattle.bay.specs.Judgement.{fileJudgement, tableJudgement, judgementOf};
 use crate::Judgement;
 use rules::Judged;
 use stored::FileRefusal;
+use stored::ReadAnswer;
 use text::rule_number;
 
 // The judgement of a file that is refused so.
@@ -35,4 +36,17 @@ pub fn table_judgement(judged: Judged) -> Judgement
             second: place.task as u32,
         },
     }
+}
+
+// The judgement of any file: as it is read, and where it is a table, by the rules.
+pub fn judge_file(file: &[u8]) -> Judgement
+    ensures { λ r. ⌜ r ≡ judgementOf (now (file .entry)) ⌝ }
+{
+    let reading = stored::read_table(file);
+    let answer = reading.answer;
+    let ReadAnswer::Whole = answer else {
+        return file_judgement(stored::file_refusal(answer));
+    };
+    let t = reading.table;
+    table_judgement(rules::judging::judge(t))
 }

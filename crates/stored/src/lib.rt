@@ -15,11 +15,10 @@ mod put;
 mod read;
 mod write;
 
+pub use number::put_number;
 pub use read::read_table;
 pub use write::file_length;
 pub use write::write_table;
-
-pub use number::put_number;
 
 // What can be wrong with the rest of a file, from the current field on. specs/Judge.antt gives document 01's number of
 // each.
