@@ -1,0 +1,9 @@
+-- Laws of writing one thing behind another, and of the lines.
+pub mod WroteLaws
+pub mod LineLaws
+pub mod RowsLaws
+pub mod ReportLaws
+pub mod TextLaws
+pub mod OffsetLaws
+pub mod ShapeLaws
+pub mod RowShape

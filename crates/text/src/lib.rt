@@ -1,0 +1,111 @@
+// What `check` prints, as bytes in a lent buffer. Every function here is proved, and the crate assumes nothing of its own.
+ghost use mathlib.Core.Path.{_≡_};
+ghost use Prim.Native.Nat.{_+_, _*_, _≤_};
+ghost use lib.ListN.{length};
+ghost use Rattle.lists.specs.Range.{joinTo};
+ghost use Rattle.table.specs.Limits.{most};
+ghost use Rattle.table.specs.Meaning.{meaning};
+ghost use Rattle.text.specs.Lines.{verdict};
+ghost use Rattle.text.specs.Room.{lineMost, textRoom};
+ghost use Rattle.text.specs.Text.{slotLine, reportText, tableText, textOf, IsPrinted};
+ghost use Rattle.text.specs.Wrote.{Wrote};
+use crate::line::put_row;
+use crate::refused::put_refused_file;
+use crate::refused::put_refused_table;
+use global::Row;
+use lines::put_bytes;
+use report::Report;
+use rules::Judged;
+use stored::ReadAnswer;
+use table::Table;
+
+mod line;
+mod refused;
+
+// The answer for a lent buffer. specs/Text.antt says when it is which, and what the buffer holds then.
+pub enum Printed {
+    // The text stands at the buffer's start, with so many bytes.
+    Text(usize),
+    // The buffer is too short for some text.
+    NoRoom,
+}
+
+// Room for the text of any file.
+pub const ROOM: usize = 2048;
+
+// The first line of an admitted table.
+fn put_verdict(buf: &mut [u8], accepted: bool) -> usize
+    requires { ⌜ 9 ≤ length (now buf) ⌝ }
+    ensures { λ r. ⌜ Wrote (now (buf .entry)) 0 (verdict accepted) (now (buf .exit)) r ⌝ }
+{
+    if accepted {
+        put_bytes(buf, 0, b"accepted\n")
+    } else {
+        put_bytes(buf, 0, b"rejected\n")
+    }
+}
+
+// The lines of the first n rows.
+fn put_rows(buf: &mut [u8], at: usize, rows: [Row; Table::MOST], n: usize) -> usize
+    requires { ⌜ (n ≤ most) × (at + most * lineMost ≤ length (now buf)) ⌝ }
+    ensures { λ r. ⌜ Wrote (now (buf .entry)) at (joinTo (slotLine rows) n) (now (buf .exit)) r ⌝ }
+{
+    let mut next = at;
+    let mut s = 0;
+    while s < n {
+        let row = rows[s];
+        next = put_row(buf, next, s, row);
+        s += 1;
+    }
+    next
+}
+
+// The text of a report on n subsystems.
+fn put_report(buf: &mut [u8], report: Report, n: usize) -> usize
+    requires { ⌜ (report .judged ≡ Judged.Admitted → n ≤ most) ⌝ }
+    requires { ⌜ textRoom ≤ length (now buf) ⌝ }
+    ensures { λ r. ⌜ Wrote (now (buf .entry)) 0 (reportText report n) (now (buf .exit)) r ⌝ }
+{
+    let judged = report.judged;
+    if let Judged::Refused(rule, place) = judged {
+        return put_refused_table(buf, 0, rule, place);
+    }
+    let at = put_verdict(buf, report.accepted);
+    let rows = report.rows;
+    put_rows(buf, at, rows, n)
+}
+
+// The text of a table.
+fn put_table(buf: &mut [u8], t: Table) -> usize
+    requires { ⌜ textRoom ≤ length (now buf) ⌝ }
+    ensures { λ r. ⌜ Wrote (now (buf .entry)) 0 (tableText (meaning t)) (now (buf .exit)) r ⌝ }
+{
+    let report = report::analyse(t);
+    put_report(buf, report, numbers::index(t.count))
+}
+
+// The text of a file.
+fn put_text(file: &[u8], buf: &mut [u8]) -> usize
+    requires { ⌜ textRoom ≤ length (now buf) ⌝ }
+    ensures { λ r. ⌜ Wrote (now (buf .entry)) 0 (textOf (now (file .entry))) (now (buf .exit)) r ⌝ }
+{
+    let reading = stored::read_table(file);
+    let answer = reading.answer;
+    let ReadAnswer::Whole = answer else {
+        return put_refused_file(buf, 0, stored::file_refusal(answer));
+    };
+    let table = reading.table;
+    put_table(buf, table)
+}
+
+// The text of any file, left at the start of the buffer: the refusal of the file, the refusal of its table, or the verdict
+// and a line for each subsystem. Bytes behind the text stay as they were. A buffer of fewer than `ROOM` bytes is left as it
+// was, whatever the file.
+pub fn check_text(file: &[u8], buf: &mut [u8]) -> Printed
+    ensures { λ r. ⌜ IsPrinted (now (file .entry)) (now (buf .entry)) (now (buf .exit)) r ⌝ }
+{
+    if buf.len() < ROOM {
+        return Printed::NoRoom;
+    }
+    Printed::Text(put_text(file, buf))
+}
