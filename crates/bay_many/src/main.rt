@@ -12,15 +12,6 @@ fn say(words: &[u8], k: u32) {
     io::write_all(STDOUT_FILENO, b"\n");
 }
 
-// The length in a frame's first four bytes.
-fn length_in(head: &[u8; 4]) -> u32 {
-    let a = head[0] as u32;
-    let b = head[1] as u32;
-    let c = head[2] as u32;
-    let d = head[3] as u32;
-    a * 16777216 + b * 65536 + c * 256 + d
-}
-
 // Passes over so many bytes of the input; false where they do not all come.
 fn pass_over(bytes: u32) -> bool {
     let mut left = bytes;
@@ -33,4 +24,53 @@ fn pass_over(bytes: u32) -> bool {
     }
     let last = left as usize;
     last <= io::read_full(STDIN_FILENO, &mut space[..last])
+}
+
+// The frame is broken: says so.
+fn broken(k: u32) -> bool {
+    say(b"broken frame ", k);
+    false
+}
+
+// Judges file k, of so many bytes; false where they do not all come.
+fn judge_file(k: u32, length: u32) -> bool {
+    let mut file = [0u8; 4096];
+    let mut wanted: usize = 4096;
+    let mut more: u32 = 0;
+    if length < 4096 {
+        wanted = length as usize;
+    } else {
+        more = length - 4096;
+    }
+    if io::read_full(STDIN_FILENO, &mut file[..wanted]) < wanted {
+        return broken(k);
+    }
+    if !pass_over(more) {
+        return broken(k);
+    }
+    say(b"file ", k);
+    printing::print_text(&file[..wanted]);
+    true
+}
+
+// Judges the next file, number k; false where there is none, or its frame is broken.
+fn judge_next(k: u32) -> bool {
+    let mut head = [0u8; 4];
+    let came = io::read_full(STDIN_FILENO, &mut head);
+    if came == 0 {
+        return false;
+    }
+    if came < 4 {
+        return broken(k);
+    }
+    judge_file(k, stored::number::number_at(&head, 0))
+}
+
+// A proved loop has to end, and nothing says that standard input does: the number of files is bounded, by one that no run
+// uses up.
+fn main() {
+    let mut k: u32 = 1;
+    while k < u32::MAX && judge_next(k) {
+        k += 1;
+    }
 }

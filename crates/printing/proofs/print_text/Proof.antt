@@ -1,4 +1,7 @@
 use native.Mathlib.Omega.{arith}
+use mathlib.Core.Path.{sym}
+use lib.Seq.{length-take-le}
+use Rattle.printing.proofs.Within.{printed-within}
 use borrow.Author.Needs.{needs}
 use Rattle.printing.proofs.print_text.Statement.{statement}
 use Rattle.printing.proofs.print_text.Tie as tie
@@ -21,11 +24,21 @@ enum-known-printed c = search needs
 
 -- src/lib.rt:12:38
 array-share-prefix-buf : tie.Need-array-share-prefix-buf
-array-share-prefix-buf c = ?a
+array-share-prefix-buf c =
+    omega
+    (arith,
+    printed-within _ _ _ _ (c .before .before .before .before .check-text .ensures .answered) (c .before .printed .given .1),
+    c .before .before .before .before .check-text .kept .1 .0)
 
 -- src/lib.rt:12:38
 slice-aggregate-write-all : tie.Need-slice-aggregate-write-all
-slice-aggregate-write-all c = ?b
+slice-aggregate-write-all c =
+    sym
+    (length-take-le _ _
+    (omega
+    (arith,
+    printed-within _ _ _ _ (c .before .before .before .before .before .check-text .ensures .answered) (c .before .before .printed .given .1),
+    c .before .before .before .before .before .check-text .kept .1 .0)))
 
 -- src/lib.rt:12:9
 write-all-requires : tie.Need-write-all-requires
