@@ -2,6 +2,9 @@
 // first. For file K a line `file K` is printed, and then what `check` prints for it. A file longer than 4,096 bytes is
 // judged by its first 4,096 and the rest is passed over. Where the bytes that a frame announces do not all come, the line
 // `broken frame K` is printed and the run ends.
+ghost use mathlib.Core.Path.{_≡_};
+ghost use Prim.Native.Nat.{_≤_};
+ghost use lib.ListN;
 use libc::STDIN_FILENO;
 use libc::STDOUT_FILENO;
 
@@ -32,24 +35,27 @@ fn broken(k: u32) -> bool {
     false
 }
 
-// Judges file k, of so many bytes; false where they do not all come.
-fn judge_file(k: u32, length: u32) -> bool {
-    let mut file = [0u8; 4096];
-    let mut wanted: usize = 4096;
-    let mut more: u32 = 0;
-    if length < 4096 {
-        wanted = length as usize;
-    } else {
-        more = length - 4096;
-    }
-    if io::read_full(STDIN_FILENO, &mut file[..wanted]) < wanted {
+// How many bytes of a file of so many are judged.
+fn judged_part(length: u32) -> u32
+    ensures { λ r. ⌜ (r ≤ 4096) × (r ≤ length) ⌝ }
+{
+    if length < 4096 { length } else { 4096 }
+}
+
+// Judges file k, of so many bytes, in a space of 4,096; false where they do not all come.
+fn judge_file(k: u32, length: u32, space: &mut [u8]) -> bool
+    requires { ⌜ ListN.length (now space) ≡ 4096 ⌝ }
+{
+    let part = judged_part(length);
+    let wanted = part as usize;
+    if io::read_full(STDIN_FILENO, &mut space[..wanted]) < wanted {
         return broken(k);
     }
-    if !pass_over(more) {
+    if !pass_over(length - part) {
         return broken(k);
     }
     say(b"file ", k);
-    printing::print_text(&file[..wanted]);
+    printing::print_text(&space[..wanted]);
     true
 }
 
@@ -63,7 +69,9 @@ fn judge_next(k: u32) -> bool {
     if came < 4 {
         return broken(k);
     }
-    judge_file(k, stored::number::number_at(&head, 0))
+    let length = stored::number::number_at(&head, 0);
+    let mut space = [0u8; 4096];
+    judge_file(k, length, &mut space)
 }
 
 // A proved loop has to end, and nothing says that standard input does: the number of files is bounded, by one that no run

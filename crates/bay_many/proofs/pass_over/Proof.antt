@@ -1,5 +1,6 @@
 use Prim.Native.Nat.{_≤_}
-use mathlib.Core.Path.{_≡_}
+use mathlib.Core.Path.{_≡_, sym}
+use lib.Seq.{length-take-le}
 use lib.ListN.{length}
 use borrow.Author.Needs.{needs}
 use native.Mathlib.Omega.{arith}
@@ -53,7 +54,7 @@ array-borrow-prefix-space c = search needs
 
 -- src/main.rt:35:41
 slice-aggregate-read-full-2 : tie.Need-slice-aggregate-read-full-2 Inv-loop μ-loop
-slice-aggregate-read-full-2 c = ?b
+slice-aggregate-read-full-2 c = sym (length-take-le _ _ (omega arith))
 
 -- src/main.rt:35:13
 read-full-requires-2 : tie.Need-read-full-requires-2 Inv-loop μ-loop
