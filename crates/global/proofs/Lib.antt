@@ -16,3 +16,4 @@ pub mod RowLaws
 pub mod LeadingLaws
 pub mod LedLaws
 pub mod SeenLaws
+pub mod RowMeaning
