@@ -16,3 +16,5 @@ pub mod RowLaws
 pub mod LeadingLaws
 pub mod LedLaws
 pub mod SeenLaws
+pub mod LentLaws
+pub mod EndsLaws
