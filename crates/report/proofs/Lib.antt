@@ -4,3 +4,4 @@ pub mod SoundLaws
 pub mod AcceptedLaws
 pub mod RowsLaws
 pub mod ReportLaws
+pub mod JobsLaws
