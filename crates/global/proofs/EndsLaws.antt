@@ -41,6 +41,10 @@ module _ (v : View) where
       below (some active) e u = record { active = active; is-active = e; among = u }
       below none e u = absurd (omega arith)
 
+  pub counted-is-below : {k : ℕ} → Counted v k → k < jobCount v
+  unfolding jobCount
+  counted-is-below ct = rw (ct .is-active) (ct .among)
+
 -- Searches over lists p and c that are the loads which the view has.
 module _ (v : View) (sv : Sound-view v) {p c : List ℕ} (ep : p ≡ v .periods) (ec : c ≡ v .costs) where
   pub active-lent : {b : ℕ} → b ≡ v .blocking → Search p c (v .place + 1) b 1

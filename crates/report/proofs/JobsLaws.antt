@@ -1,7 +1,7 @@
 -- Laws of the end of one job: what each test of the code settles. Assumes nothing.
 use Prim.Native.Nat.{ℕ, zero, suc, _-_, _≤_, _<_}
 use native.Mathlib.Omega.{arith}
-use mathlib.Core.Path.{_≡_, refl, sym, ap, _∙_}
+use mathlib.Core.Path.{_≡_, sym, ap, _∙_}
 use borrow.Author.Tests.{lt-ltb, le-ltb}
 use lib.ListN.{List·getD-eq-default}
 use Rattle.table.specs.declared.Table.{Table}
@@ -12,7 +12,6 @@ use Rattle.rules.specs.declared.Judged.the-variants.{Admitted, Refused}
 use Rattle.rules.specs.declared.Rule.{Rule}
 use Rattle.rules.specs.declared.Place.{Place}
 use Rattle.rules.specs.Rules.{judgeOf}
-use Rattle.global.specs.Interfaces.{InterfacesM}
 use Rattle.global.specs.Parts.{count}
 use Rattle.global.specs.View.{View, viewOf, resources, held}
 use Rattle.global.specs.Ends.{budgetEnd, jobEnd}

@@ -5,3 +5,4 @@ pub mod AcceptedLaws
 pub mod RowsLaws
 pub mod ReportLaws
 pub mod JobsLaws
+pub mod JobsExactly

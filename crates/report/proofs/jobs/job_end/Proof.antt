@@ -7,7 +7,7 @@ use borrow.Author.Needs.{needs}
 use Rattle.table.specs.Meaning.{meaning}
 use Rattle.rules.specs.Admitted.{SoundSystem}
 use Rattle.rules.proofs.Sound.{admitted-is-sound}
-use Rattle.global.specs.Interfaces.{InterfacesM, meaningOf}
+use Rattle.global.specs.Interfaces.{InterfacesM}
 use Rattle.global.specs.View.{viewOf}
 use Rattle.report.specs.Jobs.{endOf}
 use Rattle.report.proofs.RowsLaws.{as-many-interfaces, sound-interfaces}
