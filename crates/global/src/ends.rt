@@ -8,7 +8,7 @@ use least::demand_in;
 use least::least_solution;
 use least::least_within;
 use least::round_up;
-use least::wide;
+use numbers::wide;
 use table::Table;
 ghost use mathlib.Core.Path.{_≡_};
 ghost use Prim.Native.Nat.{_<_};
