@@ -39,7 +39,7 @@ jobs-of-requires : tie.Need-jobs-of-requires
 jobs-of-requires c κs = search needs
 
 returns : tie.Need-returns
-returns c = no-job _ (c .before .before .args .k) (c .before .before .args .l) (c .before .jobs-of .ensures) (c .if1 .taken)
+returns c = no-job _ (c .before .before .args .k) (c .before .before .args .l) (c .before .jobs-of .ensures) (omega (arith, c .if1 .taken))
 
 budget-end-requires : tie.Need-budget-end-requires
 budget-end-requires c κs =
@@ -74,7 +74,7 @@ returns-4 c =
     never-held _ (c .before .before .before .before .before .before .before .args .k) (c .before .before .before .before .before .before .jobs-of .ensures) (c .before .before .before .before .before .if1 .left) (c .before .before .before .before .before .before .before .args .l) (listed (c .before .before .before .before)) (sym (slot-held (c .before .before)) ∙ c .if4 .taken)
 
 sub-job-end : tie.Need-sub-job-end
-sub-job-end c = listed (c .before .before .before .before)
+sub-job-end c = omega (arith, listed (c .before .before .before .before))
 
 job-end-requires : tie.Need-job-end-requires
 job-end-requires c κs =
