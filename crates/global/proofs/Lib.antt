@@ -17,3 +17,5 @@ pub mod LeadingLaws
 pub mod LedLaws
 pub mod SeenLaws
 pub mod RowMeaning
+pub mod LentLaws
+pub mod EndsLaws
