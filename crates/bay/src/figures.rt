@@ -19,7 +19,7 @@ use report::Report;
 use report::rows::no_row;
 use rules::Judged;
 use stored::ReadAnswer;
-use stored::put_number;
+use stored::number::put_number;
 use table::Table;
 use text::response;
 

@@ -3,7 +3,6 @@
 // Every function here is proved, and the crate assumes nothing.
 use numbers::wide;
 ghost use mathlib.Core.Path.{_≡_};
-ghost use mathlib.Core.Option.{some};
 ghost use Prim.Native.Nat.{_*_, _≤_, _<_, _^_};
 ghost use Rattle.least.specs.Up.{up};
 ghost use Rattle.least.specs.Demand.{demand, total};

@@ -7,3 +7,5 @@ pub mod TextLaws
 pub mod OffsetLaws
 pub mod ShapeLaws
 pub mod RowShape
+pub mod TextShape
+pub mod BufferLaws
