@@ -1,6 +1,7 @@
 // The stored table: fields of bytes, the reader and the writer. `read_table` reads any bytes; `write_table` writes into
 // any buffer; `file_length` is how many bytes that takes. Every function here is proved, and the crate assumes nothing
-// of its own. No public function has a `requires`.
+// of its own. No function of this file has a `requires`; those of `number` ask for the four bytes that they are to read
+// or to write.
 ghost use mathlib.Core.Path.{_≡_};
 ghost use Rattle.stored.specs.Judge.{faultNumber};
 ghost use Rattle.stored.specs.Read.{fileRefusal};
