@@ -22,6 +22,9 @@ use table::Table;
 mod line;
 mod refused;
 
+pub use line::response;
+pub use refused::rule_number;
+
 // The answer for a lent buffer. specs/Text.antt says when it is which, and what the buffer holds then.
 pub enum Printed {
     // The text stands at the buffer's start, with so many bytes.

@@ -38,7 +38,7 @@ fn put_outcome(buf: &mut [u8], at: usize, outcome: Outcome) -> usize
 }
 
 // R, as the row's outcome holds it; 0 where there is none.
-fn response(outcome: Outcome) -> u32
+pub fn response(outcome: Outcome) -> u32
     ensures { λ r. ⌜ r ≡ reported outcome ⌝ }
 {
     match outcome {

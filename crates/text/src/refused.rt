@@ -14,7 +14,7 @@ use rules::Rule;
 use stored::FileRefusal;
 
 // The number of a rule.
-fn rule_number(rule: Rule) -> u32
+pub fn rule_number(rule: Rule) -> u32
     ensures { λ r. ⌜ r ≡ numberOf rule ⌝ }
 {
     match rule {

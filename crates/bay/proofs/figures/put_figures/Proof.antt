@@ -1,0 +1,84 @@
+use Prim.Native.Nat.{_*_}
+use mathlib.Core.Path.{_≡_}
+use lib.ListN.{length}
+use Rattle.table.specs.Limits.{most}
+use Rattle.stored.specs.Numbers.{numberSize}
+use Rattle.stored.proofs.WriteSteps.{free-starts-within, free-has-room, end-within, put-behind, put-the-same}
+use Rattle.bay.specs.Lent.{headCount, rowCount}
+use Rattle.bay.proofs.FigureLaws.{length-headBytes, length-rows, head-then-rows}
+use native.Mathlib.Omega.{arith}
+use borrow.Author.Needs.{needs}
+use Rattle.bay.proofs.figures.put_figures.Statement.{statement}
+use Rattle.bay.proofs.figures.put_figures.Tie as tie
+use Rattle.bay.proofs.figures.put_figures.Reads as reads
+use Rattle.bay.proofs.figures.put_figures.Lts as lts
+use Rattle.bay.proofs.figures.put_head.Reads as put-head-reads
+use Rattle.bay.proofs.figures.put_rows.Reads as put-rows-reads
+
+-- src/figures.rt:115:9
+put-head-requires : tie.Need-put-head-requires
+put-head-requires c κs = search needs
+
+-- src/figures.rt:116:20
+sub-put-rows : tie.Need-sub-put-rows
+sub-put-rows c =
+    let a = c .before .before .before .before .before .args in
+    let h = c .before .before .put-head in
+    free-starts-within (a .free .now) _ (h .last .0) (h .result) (h .ensures) (numberSize * headCount) (most * (numberSize * rowCount)) (length-headBytes (a .j) (a .accepted) (a .n)) (c .before .before .before .before .before .pre)
+
+-- src/figures.rt:116:20
+part-put-rows-start : tie.Need-part-put-rows-start
+part-put-rows-start c =
+    let a = c .before .before .before .before .before .args in
+    let h = c .before .before .put-head in
+    free-starts-within (a .free .now) _ (h .last .0) (h .result) (h .ensures) (numberSize * headCount) (most * (numberSize * rowCount)) (length-headBytes (a .j) (a .accepted) (a .n)) (c .before .before .before .before .before .pre)
+
+-- src/figures.rt:116:20
+part-put-rows-end : tie.Need-part-put-rows-end
+part-put-rows-end c = search needs
+
+-- src/figures.rt:116:11
+put-rows-requires : tie.Need-put-rows-requires
+put-rows-requires c κs =
+    let a = c .before .before .before .before .before .before .args in
+    let h = c .before .before .before .put-head in
+    free-has-room (a .free .now) _ (h .last .0) (h .result) (h .ensures) (numberSize * headCount) (most * (numberSize * rowCount)) (length-headBytes (a .j) (a .accepted) (a .n)) (c .before .before .before .before .before .before .pre)
+
+-- src/figures.rt:116:5
+add-at : tie.Need-add-at
+add-at c =
+    let a = c .before .before .before .before .before .before .before .before .before .args in
+    let h = c .before .before .before .before .before .before .put-head in
+    let w = c .before .before .put-rows in
+    let eight : length (a .rows) ≡ most = c .before .before .before .before .before .before .before .before .before .good .1 .1 .1 .1 .0 .1 .0 .1 in
+    omega (
+      arith,
+      end-within (a .free .now) _ (h .last .0) (h .result) (h .ensures) (numberSize * headCount) (most * (numberSize * rowCount)) (length-headBytes (a .j) (a .accepted) (a .n)) (c .before .before .before .before .before .before .before .before .before .pre) _ (w .last .0) (w .result) (w .ensures) (length-rows (a .rows) most eight),
+      c .before .before .before .before .before .before .before .before .before .good .0 .0,
+    )
+
+-- src/figures.rt:111:1
+same-length : tie.Need-same-length
+same-length c = search needs
+
+-- src/figures.rt:111:1
+returns : tie.Need-returns
+returns c =
+    let a = c .before .before .before .before .before .before .before .before .before .args in
+    let h = c .before .before .before .before .before .before .put-head in
+    let w = c .before .before .put-rows in
+    put-the-same _ _ (a .free .now) _ _ (head-then-rows (a .j) (a .accepted) (a .n) (a .rows))
+    (put-behind (a .free .now) _ (h .last .0) (h .result) (h .ensures) _ (w .last .0) (w .result) (w .ensures))
+
+pub put-figures-spec : {M : Type 1} → statement M
+put-figures-spec =
+    tie.close
+    (tie.spec
+    put-head-requires
+    sub-put-rows
+    part-put-rows-start
+    part-put-rows-end
+    put-rows-requires
+    add-at
+    same-length
+    returns)

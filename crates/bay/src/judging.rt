@@ -1,0 +1,52 @@
+// The judgement of a file: number and place. Assumes nothing.
+ghost use mathlib.Core.Path.{_≡_};
+ghost use Prim.Native.Nat.{_<_, _^_};
+ghost use Rattle.bay.specs.Judgement.{fileJudgement, tableJudgement, judgementOf};
+use crate::Judgement;
+use rules::Judged;
+use stored::FileRefusal;
+use stored::ReadAnswer;
+use text::rule_number;
+
+// The judgement of a file that is refused so.
+pub fn file_judgement(refusal: FileRefusal) -> Judgement
+    requires { ⌜ refusal .offset < 2 ^ 32 ⌝ }
+    ensures { λ r. ⌜ r ≡ fileJudgement refusal ⌝ }
+{
+    Judgement {
+        number: refusal.number as u32,
+        first: refusal.offset as u32,
+        second: 0,
+    }
+}
+
+// The judgement of a table that was judged so.
+pub fn table_judgement(judged: Judged) -> Judgement
+    ensures { λ r. ⌜ r ≡ tableJudgement judged ⌝ }
+{
+    match judged {
+        Judged::Admitted => Judgement {
+            number: 0,
+            first: 0,
+            second: 0,
+        },
+        Judged::Refused(rule, place) => Judgement {
+            number: rule_number(rule),
+            first: place.subsystem as u32,
+            second: place.task as u32,
+        },
+    }
+}
+
+// The judgement of any file: as it is read, and where it is a table, by the rules.
+pub fn judge_file(file: &[u8]) -> Judgement
+    ensures { λ r. ⌜ r ≡ judgementOf (now (file .entry)) ⌝ }
+{
+    let reading = stored::read_table(file);
+    let answer = reading.answer;
+    let ReadAnswer::Whole = answer else {
+        return file_judgement(stored::file_refusal(answer));
+    };
+    let t = reading.table;
+    table_judgement(rules::judging::judge(t))
+}
