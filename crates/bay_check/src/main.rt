@@ -1,15 +1,9 @@
 // `check` of the rules: reads a stored table from standard input, the first 4,096 bytes, and prints the verdict. Nothing
 // longer than that is a table, and the answer is the same (crate `stored` proves it).
 use libc::STDIN_FILENO;
-use libc::STDOUT_FILENO;
-use text::Printed;
 
 fn main() {
     let mut file = [0u8; 4096];
     let n = io::read_full(STDIN_FILENO, &mut file);
-    let mut buf = [0u8; 2048];
-    let printed = text::check_text(&file[..n], &mut buf);
-    if let Printed::Text(len) = printed {
-        io::write_all(STDOUT_FILENO, &buf[..len]);
-    }
+    printing::print_text(&file[..n]);
 }

@@ -2,13 +2,83 @@
 // first. For file K a line `file K` is printed, and then what `check` prints for it. A file longer than 4,096 bytes is
 // judged by its first 4,096 and the rest is passed over. Where the bytes that a frame announces do not all come, the line
 // `broken frame K` is printed and the run ends.
+ghost use mathlib.Core.Path.{_≡_};
+ghost use Prim.Native.Nat.{_≤_};
+ghost use lib.ListN;
 use libc::STDIN_FILENO;
 use libc::STDOUT_FILENO;
-use text::Printed;
 
-// A line: a word, the number of the file, and the line's end.
-fn say(word: &[u8], k: u32) {
-    io::write_all(STDOUT_FILENO, word);
-    io::print_decimal(k as u64);
+// A line: words, the number of the file, and the line's end.
+fn say(words: &[u8], k: u32) {
+    io::write_all(STDOUT_FILENO, words);
+    io::print_decimal(STDOUT_FILENO, k as u64);
     io::write_all(STDOUT_FILENO, b"\n");
+}
+
+// Passes over so many bytes of the input; false where they do not all come.
+fn pass_over(bytes: u32) -> bool {
+    let mut left = bytes;
+    let mut space = [0u8; 4096];
+    while 4096 < left {
+        if io::read_full(STDIN_FILENO, &mut space) < 4096 {
+            return false;
+        }
+        left -= 4096;
+    }
+    let last = left as usize;
+    last <= io::read_full(STDIN_FILENO, &mut space[..last])
+}
+
+// The frame is broken: says so.
+fn broken(k: u32) -> bool {
+    say(b"broken frame ", k);
+    false
+}
+
+// How many bytes of a file of so many are judged.
+fn judged_part(length: u32) -> u32
+    ensures { λ r. ⌜ (r ≤ 4096) × (r ≤ length) ⌝ }
+{
+    if length < 4096 { length } else { 4096 }
+}
+
+// Judges file k, of so many bytes, in a space of 4,096; false where they do not all come.
+fn judge_file(k: u32, length: u32, space: &mut [u8]) -> bool
+    requires { ⌜ ListN.length (now space) ≡ 4096 ⌝ }
+{
+    let part = judged_part(length);
+    let wanted = part as usize;
+    if io::read_full(STDIN_FILENO, &mut space[..wanted]) < wanted {
+        return broken(k);
+    }
+    if !pass_over(length - part) {
+        return broken(k);
+    }
+    say(b"file ", k);
+    printing::print_text(&space[..wanted]);
+    true
+}
+
+// Judges the next file, number k; false where there is none, or its frame is broken.
+fn judge_next(k: u32) -> bool {
+    let mut head = [0u8; 4];
+    let came = io::read_full(STDIN_FILENO, &mut head);
+    if came == 0 {
+        return false;
+    }
+    if came < 4 {
+        return broken(k);
+    }
+    let length = stored::number::number_at(&head, 0);
+    let mut space = [0u8; 4096];
+    judge_file(k, length, &mut space)
+}
+
+// A proved loop has to end, and nothing says that standard input does: the number of files is bounded, by one that no run
+// uses up.
+fn main() {
+    let mut k: u32 = 1;
+    while k < u32::MAX && judge_next(k) {
+        k += 1;
+    }
 }

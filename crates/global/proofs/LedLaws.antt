@@ -99,11 +99,11 @@ module _ (v : View) where
   unfolding responseWith
   response-of-none w k l e = rw e refl
 
-  response-of-some : (k l : ℕ) → 0 < held v l → responseWith v k l ≡ jobEnd v k l - k * v .period
+  pub response-of-some : (k l : ℕ) → 0 < held v l → responseWith v k l ≡ jobEnd v k l - k * v .period
   unfolding responseWith
   response-of-some k l u = rw (lt-ltb 0 (held v l) u) refl
 
-  some-held : (k l : ℕ) → 0 < responseWith v k l → 0 < held v l
+  pub some-held : (k l : ℕ) → 0 < responseWith v k l → 0 < held v l
   some-held k l u =
       ⊎-elim (λ (z : held v l ≤ 0). absurd (omega (arith, response-of-none v k l (omega arith)))) (λ (p : 0 < held v l). p)
       (le-or-lt (held v l) 0)

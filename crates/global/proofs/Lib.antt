@@ -16,3 +16,6 @@ pub mod RowLaws
 pub mod LeadingLaws
 pub mod LedLaws
 pub mod SeenLaws
+pub mod RowMeaning
+pub mod LentLaws
+pub mod EndsLaws

@@ -4,6 +4,7 @@ pub mod Parts
 pub mod Blocking
 pub mod View
 pub mod Ends
+pub mod JobCount
 pub mod Response
 pub mod Row
 pub mod Common

@@ -3,12 +3,16 @@
 // resource. Every function here is proved, and the crate assumes nothing. Indices count from 0; document 01 counts from 1.
 mod blocking;
 mod ceilings;
+mod ends;
 mod leading;
 mod responses;
 mod rows;
 
 pub use ceilings::Common;
 pub use ceilings::in_common;
+pub use ends::budget_end;
+pub use ends::job_end;
+pub use ends::jobs_of;
 pub use rows::row_of;
 use table::Table;
 

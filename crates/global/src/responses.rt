@@ -1,7 +1,7 @@
 // Budget ends, job ends and responses of one subsystem, over every job of its active period.
 use least::demand_in;
 use least::least_within;
-use least::wide;
+use numbers::wide;
 ghost use mathlib.Core.Path.{_≡_};
 ghost use mathlib.Core.Bool.{cond};
 ghost use Prim.Native.Nat.{_+_, _*_, _^_, _≤_, _<_};

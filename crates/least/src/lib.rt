@@ -1,8 +1,8 @@
 // Least solutions of x = constant + demand of a list of loads in x ticks, and division rounded up. Steps 7, 9 and 10 of
 // the analysis are such solutions. Loads come as a slice of periods and a slice of costs, of which the first n count.
 // Every function here is proved, and the crate assumes nothing.
+use numbers::wide;
 ghost use mathlib.Core.Path.{_≡_};
-ghost use mathlib.Core.Option.{some};
 ghost use Prim.Native.Nat.{_*_, _≤_, _<_, _^_};
 ghost use Rattle.least.specs.Up.{up};
 ghost use Rattle.least.specs.Demand.{demand, total};
@@ -13,13 +13,6 @@ ghost use Rattle.least.specs.Search.{Loads, Search, Comes-down, IsLeast,
 pub enum Least {
     At(u32),
     Beyond,
-}
-
-// The same number, in the width in which sums are made.
-pub fn wide(x: u32) -> u64
-    ensures { λ r. ⌜ (r ≡ x) × (r < 2 ^ 32) ⌝ }
-{
-    x as u64
 }
 
 // Up(a, b): a divided by b, rounded up, in one 32-bit division.

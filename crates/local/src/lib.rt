@@ -20,36 +20,31 @@ pub struct Share {
     pub end: u32,
 }
 
-// The separations of the tasks in use, and zeros behind them.
-fn separations_of(sub: Subsystem) -> [u32; Table::MOST]
+// The tasks of a subsystem as loads: how often each may ask, and for how much.
+pub struct TaskLoads {
+    pub separations: [u32; Table::MOST],
+    pub works: [u32; Table::MOST],
+}
+
+// The separations and the works of the tasks in use, and zeros behind them.
+fn task_loads(sub: Subsystem) -> TaskLoads
     requires { ⌜ sub .count ≤ most ⌝ }
-    ensures { λ r. ⌜ r ≡ padded (separationAt sub) 0 most (sub .count) ⌝ }
+    ensures { λ r. ⌜ (r .separations ≡ padded (separationAt sub) 0 most (sub .count)) × (r .works ≡ padded (workAt sub) 0 most (sub .count)) ⌝ }
 {
     let n = numbers::index(sub.count);
     let mut separations = [0u32; Table::MOST];
-    let mut j = 0;
-    while j < n {
-        let task = sub.tasks[j];
-        separations[j] = task.separation;
-        j += 1;
-    }
-    separations
-}
-
-// The works of the tasks in use, and zeros behind them.
-fn works_of(sub: Subsystem) -> [u32; Table::MOST]
-    requires { ⌜ sub .count ≤ most ⌝ }
-    ensures { λ r. ⌜ r ≡ padded (workAt sub) 0 most (sub .count) ⌝ }
-{
-    let n = numbers::index(sub.count);
     let mut works = [0u32; Table::MOST];
     let mut j = 0;
     while j < n {
         let task = sub.tasks[j];
+        separations[j] = task.separation;
         works[j] = task.work;
         j += 1;
     }
-    works
+    TaskLoads {
+        separations: separations,
+        works: works,
+    }
 }
 
 // Whether task i passes, from what was taken out of the subsystem.
@@ -84,8 +79,9 @@ pub fn first_failing_task(sub: Subsystem, m: usize, end: u32) -> u8
     ensures { λ r. ⌜ r ≡ firstFailing m (subsystemM m sub) end ⌝ }
 {
     let ceilings = blocking::inner_ceilings(sub, m);
-    let separations = separations_of(sub);
-    let works = works_of(sub);
+    let loads = task_loads(sub);
+    let separations = loads.separations;
+    let works = loads.works;
     let n = numbers::index(sub.count);
     let mut i = 0;
     while i < n {

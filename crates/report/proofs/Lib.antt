@@ -4,3 +4,5 @@ pub mod SoundLaws
 pub mod AcceptedLaws
 pub mod RowsLaws
 pub mod ReportLaws
+pub mod JobsLaws
+pub mod JobsExactly

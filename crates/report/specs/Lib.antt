@@ -2,3 +2,4 @@
 pub mod Interfaces
 pub mod Report
 pub mod Slots
+pub mod Jobs

@@ -9,6 +9,7 @@ use table::Table;
 
 pub mod accepting;
 pub mod interface;
+pub mod jobs;
 pub mod rows;
 
 // The report: the judgement, whether the table is accepted, and eight rows. Where the table is refused, and past its

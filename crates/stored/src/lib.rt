@@ -10,7 +10,7 @@ use table::Table;
 
 mod decode;
 mod judge;
-mod number;
+pub mod number;
 mod put;
 mod read;
 mod write;

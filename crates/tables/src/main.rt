@@ -1,7 +1,6 @@
 // Prints, for each stored table that an argument names, a line with the name and then what `check` prints for it. The
 // stored output comes from the peer's literal engine (tests/peer/make_tables), never from this program.
 use libc::STDOUT_FILENO;
-use text::Printed;
 
 // One stored table.
 fn judge_named(path: &[u8]) {
@@ -15,11 +14,7 @@ fn judge_named(path: &[u8]) {
     let mut file = [0u8; 4096];
     let n = io::read_full(fd, &mut file);
     libc::close(fd);
-    let mut buf = [0u8; 2048];
-    let printed = text::check_text(&file[..n], &mut buf);
-    if let Printed::Text(len) = printed {
-        io::write_all(STDOUT_FILENO, &buf[..len]);
-    }
+    printing::print_text(&file[..n]);
 }
 
 // The table that argument i names.

@@ -1,6 +1,6 @@
 -- `local::first_failing_task` gives the first failing task: the first from i on decides. Assumes nothing.
 use Prim.Native.Nat.{ℕ, _≤_, _-_}
-use mathlib.Core.Path.{_≡_, refl, sym, ap, _∙_}
+use mathlib.Core.Path.{_≡_}
 use Rattle.local.specs.Ready.{TakenOut}
 use Rattle.local.proofs.TaskLaws.{some-task, tasks-within}
 use Rattle.local.proofs.FailingLaws.{FailingFrom, failing-from-zero, failing-here, failing-next, failing-over}
@@ -24,11 +24,8 @@ inner-ceilings-requires c κs =
       resources-most = c .pre .resources-most;
     }
 
-separations-of-requires : tie.Need-separations-of-requires Inv-loop μ-loop
-separations-of-requires c κs = tasks-within _ _ (c .before .pre .sound)
-
-works-of-requires : tie.Need-works-of-requires Inv-loop μ-loop
-works-of-requires c κs = tasks-within _ _ (c .before .before .pre .sound)
+task-loads-requires : tie.Need-task-loads-requires Inv-loop μ-loop
+task-loads-requires c κs = tasks-within _ _ (c .before .pre .sound)
 
 index-requires : tie.Need-index-requires Inv-loop μ-loop
 index-requires c κs = search needs
@@ -36,9 +33,9 @@ index-requires c κs = search needs
 loop-holds : tie.Need-loop-holds Inv-loop μ-loop
 loop-holds c = (
   record {
-    ceilings-are = c .before .before .before .inner-ceilings .ensures;
-    separations-are = c .before .before .separations-of .ensures;
-    works-are = c .before .works-of .ensures;
+    ceilings-are = c .before .before .before .before .inner-ceilings .ensures;
+    separations-are = c .before .before .before .task-loads .ensures .0;
+    works-are = c .before .before .before .task-loads .ensures .1;
   },
   search needs,
   search needs,
@@ -46,7 +43,7 @@ loop-holds c = (
 )
 
 task-passes-requires : tie.Need-task-passes-requires Inv-loop μ-loop
-task-passes-requires c κs = (c .before .before .before .before .before .before .before .before .before .pre, (omega arith, c .before .before .before .before .loop .inv .0))
+task-passes-requires c κs = (c .before .before .before .before .before .before .before .before .before .before .pre, (omega arith, c .before .before .before .before .loop .inv .0))
 
 add-result : tie.Need-add-result Inv-loop μ-loop
 add-result c = search needs
@@ -56,7 +53,7 @@ cast-result c = search needs
 
 returns : tie.Need-returns Inv-loop μ-loop
 returns c =
-    let s : tie.Start Inv-loop μ-loop = c .before .before .before .before .before .before .before .before .before .before .before in
+    let s : tie.Start Inv-loop μ-loop = c .before .before .before .before .before .before .before .before .before .before .before .before in
     omega (
       arith,
       failing-here (s .args .m) (s .args .sub) (s .args .end) (c .before .before .before .before .before .before .loop .i) (omega arith) _ (c .before .task-passes .ensures) (c .if1 .taken)
@@ -87,8 +84,7 @@ first-failing-task-spec =
     Inv-loop
     μ-loop
     inner-ceilings-requires
-    separations-of-requires
-    works-of-requires
+    task-loads-requires
     index-requires
     loop-holds
     task-passes-requires

@@ -1,0 +1,56 @@
+use Prim.Native.Nat.{_≤_, _-_}
+use borrow.Author.Needs.{needs}
+use native.Mathlib.Omega.{arith}
+use Rattle.bay_many.proofs.main.Statement.{statement}
+use Rattle.bay_many.proofs.main.Tie as tie
+use Rattle.bay_many.proofs.main.Reads as reads
+use Rattle.bay_many.proofs.main.Lts as lts
+use Rattle.bay_many.proofs.judge_next.Reads as judge-next-reads
+
+abbrev Inv-loop : tie.InvT-loop
+Inv-loop k₀ k = k ≤ 4294967295
+
+abbrev μ-loop : tie.MeasureT-loop
+μ-loop k₀ k = 4294967295 - k
+
+-- src/main.rt:73:5
+loop-holds : tie.Need-loop-holds Inv-loop μ-loop
+loop-holds c = search needs
+
+-- src/main.rt:73:27
+judge-next-requires : tie.Need-judge-next-requires Inv-loop μ-loop
+judge-next-requires c κs = search needs
+
+-- src/main.rt:74:9
+add-k : tie.Need-add-k Inv-loop μ-loop
+add-k c = search needs
+
+-- src/main.rt:73:5
+loop-less : tie.Need-loop-less Inv-loop μ-loop
+loop-less c = search needs
+
+-- src/main.rt:73:5
+loop-again : tie.Need-loop-again Inv-loop μ-loop
+loop-again c = search needs
+
+-- src/main.rt:71:1
+returns : tie.Need-returns Inv-loop μ-loop
+returns c = search needs
+
+-- src/main.rt:71:1
+returns-2 : tie.Need-returns-2 Inv-loop μ-loop
+returns-2 c = search needs
+
+pub main-spec : {M : Type 1} → statement M
+main-spec =
+    tie.close
+    (tie.spec
+    Inv-loop
+    μ-loop
+    loop-holds
+    judge-next-requires
+    add-k
+    loop-less
+    loop-again
+    returns
+    returns-2)

@@ -1,0 +1,2 @@
+-- That a text is within the buffer.
+pub mod Within

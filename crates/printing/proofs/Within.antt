@@ -1,0 +1,21 @@
+-- A text that was printed is no longer than the room for any text. Assumes nothing.
+use Prim.Native.Nat.{ℕ, _≤_}
+use native.Mathlib.Omega.{arith}
+use mathlib.Core.Path.{_≡_, sym, _∙_}
+use mathlib.Core.Bool.{Bool, true, false, cond}
+use mathlib.Core.List.{List}
+use lib.Dec.{ltb}
+use lib.ListN.{length}
+use Rattle.text.specs.declared.Printed.{Printed}
+use Rattle.text.specs.declared.Printed.the-variants.{Text, NoRoom}
+use Rattle.text.specs.Room.{textRoom}
+use Rattle.text.specs.Text.{textOf, printedOf}
+use Rattle.text.proofs.TextShape.{text-most}
+
+pub printed-within : (file : List ℕ) (room n : ℕ) (p : Printed) → p ≡ printedOf file room → p ≡ Text n → n ≤ textRoom
+unfolding printedOf
+printed-within file room n p e f = go (ltb room textRoom) (sym e ∙ f)
+  where
+    go : (b : Bool) → cond b NoRoom (Text (length (textOf file))) ≡ Text n → n ≤ textRoom
+    go true q = let z : _≡_ {A = ℕ} 0 1 = cc in absurd (omega arith)
+    go false q = let k : length (textOf file) ≡ n = cc in omega (arith, text-most file)

@@ -1,0 +1,70 @@
+use native.Mathlib.Omega.{arith}
+use mathlib.Core.Path.{sym}
+use lib.Seq.{length-take-le}
+use Rattle.printing.proofs.Within.{printed-within}
+use borrow.Author.Needs.{needs}
+use Rattle.printing.proofs.print_text.Statement.{statement}
+use Rattle.printing.proofs.print_text.Tie as tie
+use Rattle.printing.proofs.print_text.Reads as reads
+use Rattle.printing.proofs.print_text.Lts as lts
+use Rattle.io.proofs.write_all.Reads as write-all-reads
+use Rattle.text.proofs.check_text.Reads as check-text-reads
+
+-- src/lib.rt:10:42
+slice-aggregate-check-text : tie.Need-slice-aggregate-check-text
+slice-aggregate-check-text c = search needs
+
+-- src/lib.rt:10:9
+check-text-requires : tie.Need-check-text-requires
+check-text-requires c κs = search needs
+
+-- src/lib.rt:11:26
+enum-known-printed : tie.Need-enum-known-printed
+enum-known-printed c = search needs
+
+-- src/lib.rt:12:38
+array-share-prefix-buf : tie.Need-array-share-prefix-buf
+array-share-prefix-buf c =
+    omega
+    (arith,
+    printed-within _ _ _ _ (c .before .before .before .before .check-text .ensures .answered) (c .before .printed .given .1),
+    c .before .before .before .before .check-text .kept .1 .0)
+
+-- src/lib.rt:12:38
+slice-aggregate-write-all : tie.Need-slice-aggregate-write-all
+slice-aggregate-write-all c =
+    sym
+    (length-take-le _ _
+    (omega
+    (arith,
+    printed-within _ _ _ _ (c .before .before .before .before .before .check-text .ensures .answered) (c .before .before .printed .given .1),
+    c .before .before .before .before .before .check-text .kept .1 .0)))
+
+-- src/lib.rt:12:9
+write-all-requires : tie.Need-write-all-requires
+write-all-requires c κs = search needs
+
+enum-told : tie.Need-enum-told
+enum-told c = search needs
+
+-- src/lib.rt:6:1
+returns : tie.Need-returns
+returns c = search needs
+
+-- src/lib.rt:6:1
+returns-2 : tie.Need-returns-2
+returns-2 c = search needs
+
+pub print-text-spec : {M : Type 1} → statement M
+print-text-spec =
+    tie.close
+    (tie.spec
+    slice-aggregate-check-text
+    check-text-requires
+    enum-known-printed
+    array-share-prefix-buf
+    slice-aggregate-write-all
+    write-all-requires
+    enum-told
+    returns
+    returns-2)
