@@ -74,19 +74,22 @@ spelled-four : (a b c d : ℕ) → spelled (a ∷ b ∷ c ∷ d ∷ []) ≡ a * 
 unfolding spelled
 spelled-four a b c d = omega arith
 
-pub number-of-four : (bs : List ℕ) (at : ℕ) → at + 4 ≤ length bs → numberAt bs at ≡ getD bs at 0 * 16777216 + getD bs (at + 1) 0 * 65536 + getD bs (at + 2) 0 * 256 + getD bs (at + 3) 0
+number-of-four : (bs : List ℕ) (at : ℕ) → at + 4 ≤ length bs → numberAt bs at ≡ getD bs at 0 * 16777216 + getD bs (at + 1) 0 * 65536 + getD bs (at + 2) 0 * 256 + getD bs (at + 3) 0
 unfolding numberAt
 number-of-four bs at h =
-    rw (
-      add-one,
-      add-two,
-      add-three,
-      drop-cons bs at 0 (omega arith),
-      drop-cons bs (suc at) 0 (omega arith),
-      drop-cons bs (suc (suc at)) 0 (omega arith),
-      drop-cons bs (suc (suc (suc at))) 0 (omega arith),
-    )
+    rw
+    (add-one,
+    add-two,
+    add-three,
+    drop-cons bs at 0 (omega arith),
+    drop-cons bs (suc at) 0 (omega arith),
+    drop-cons bs (suc (suc at)) 0 (omega arith),
+    drop-cons bs (suc (suc (suc at))) 0 (omega arith))
     (spelled-four (getD bs at 0) (getD bs (suc at) 0) (getD bs (suc (suc at)) 0) (getD bs (suc (suc (suc at))) 0))
+
+-- Four bytes, each weighed by its place, make the number that they spell.
+pub four-bytes-spell : (bs : List ℕ) (at a b c d : ℕ) → at + 4 ≤ length bs → a ≡ getD bs at 0 → b ≡ getD bs (at + 1) 0 → c ≡ getD bs (at + 2) 0 → d ≡ getD bs (at + 3) 0 → a * 16777216 + b * 65536 + c * 256 + d ≡ numberAt bs at
+four-bytes-spell bs at a b c d h ea eb ec ed = rw (ea, eb, ec, ed) (sym (number-of-four bs at h))
 
 pub four-stores : (buf : List ℕ) (a b c d : ℕ) → 4 ≤ length buf → set (set (set (set buf 0 a) 1 b) 2 c) 3 d ≡ a ∷ b ∷ c ∷ d ∷ drop 4 buf
 four-stores [] a b c d h = absurd (omega arith)

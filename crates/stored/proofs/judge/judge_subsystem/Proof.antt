@@ -27,8 +27,8 @@ enum-told c = search needs
 -- src/judge.rt:102:9
 returns : tie.Need-returns
 returns c =
-    faulty-before-range 2 9 subsystemInRange (c .before .before .before .before .args .rest .now) _ (c .enum-told .given .0 .0) (c .before .before .judge .ensures)
-    (c .enum-told .given .1)
+    let told = c .enum-told .given in
+    faulty-before-range 2 9 subsystemInRange (c .before .before .before .before .args .rest .now) _ (told .0 .0) (c .before .before .judge .ensures) (told .1)
 
 -- src/judge.rt:104:9
 value-requires : tie.Need-value-requires
@@ -38,11 +38,8 @@ value-requires c κs =
 -- src/judge.rt:105:18
 shared-slice-read-count-out : tie.Need-shared-slice-read-count-out
 shared-slice-read-count-out c =
-    omega (
-      arith,
-      sound-value-length 2 9 anyValue (c .before .before .before .before .before .before .before .args .rest .now) _ _ (c .before .before .before .before .before .judge .ensures) (c .before .before .before .answer .given .1) (c .before .value .result .now)
-          (c .before .value .ensures),
-    )
+    let v = c .before .value in
+    omega (arith, sound-value-length 2 9 anyValue (c .before .before .before .before .before .before .before .args .rest .now) _ _ (c .before .before .before .before .before .judge .ensures) (c .before .before .before .answer .given .1) (v .result .now) (v .ensures))
 
 -- src/judge.rt:105:8
 count-out-requires : tie.Need-count-out-requires
@@ -52,22 +49,24 @@ count-out-requires c κs = search needs
 returns-2 : tie.Need-returns-2
 unfolding subsystemInRange
 returns-2 c =
-    let k = c .before .before .before .before .before in
-    let j = k .before .before in
-    let r = j .before .before .args .rest .now in
-    let e = sound-value 2 9 anyValue r _ _ (j .judge .ensures) (k .answer .given .1) (c .before .before .before .value .result .now) (c .before .before .before .value .ensures) in
-    sound-out-of-range 2 9 subsystemInRange r _ (k .answer .given .0 .0) (j .judge .ensures) (k .answer .given .1)
+    let j = c .before .before .before .before .before .before .before .judge in
+    let told = c .before .before .before .before .before .answer .given in
+    let v = c .before .before .before .value in
+    let rest = c .before .before .before .before .before .before .before .before .before .args .rest .now in
+    let e = sound-value 2 9 anyValue rest _ _ (j .ensures) (told .1) (v .result .now) (v .ensures) in
+    sound-out-of-range 2 9 subsystemInRange rest _ (told .0 .0) (j .ensures) (told .1)
     (sym (ap subsystemInRange e) ∙ ap not (sym (c .before .count-out .ensures) ∙ c .if1 .taken))
 
 -- src/judge.rt:97:1
 returns-3 : tie.Need-returns-3
 unfolding subsystemInRange
 returns-3 c =
-    let k = c .before .before .before .before .before in
-    let j = k .before .before in
-    let r = j .before .before .args .rest .now in
-    let e = sound-value 2 9 anyValue r _ _ (j .judge .ensures) (k .answer .given .1) (c .before .before .before .value .result .now) (c .before .before .before .value .ensures) in
-    sound-in-range 2 9 subsystemInRange r _ (k .answer .given .0 .0) (j .judge .ensures) (k .answer .given .1)
+    let j = c .before .before .before .before .before .before .before .judge in
+    let told = c .before .before .before .before .before .answer .given in
+    let v = c .before .before .before .value in
+    let rest = c .before .before .before .before .before .before .before .before .before .args .rest .now in
+    let e = sound-value 2 9 anyValue rest _ _ (j .ensures) (told .1) (v .result .now) (v .ensures) in
+    sound-in-range 2 9 subsystemInRange rest _ (told .0 .0) (j .ensures) (told .1)
     (sym (ap subsystemInRange e) ∙ ap not (sym (c .before .count-out .ensures) ∙ c .if1 .left))
 
 pub judge-subsystem-spec : {M : Type 1} → statement M

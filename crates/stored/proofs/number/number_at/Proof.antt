@@ -1,6 +1,6 @@
 use native.Mathlib.Omega.{arith}
 use borrow.Author.Needs.{needs}
-use Rattle.stored.proofs.Numbers.{number-of-four}
+use Rattle.stored.proofs.Numbers.{four-bytes-spell}
 use Rattle.stored.proofs.number.number_at.Statement.{statement}
 use Rattle.stored.proofs.number.number_at.Tie as tie
 use Rattle.stored.proofs.number.number_at.Reads as reads
@@ -78,8 +78,8 @@ add-result-3 c = search needs
 -- src/number.rt:17:1
 returns : tie.Need-returns
 returns c =
-    let a = c .before .before .before .before .before .before .before .before .before .args in
-    omega (arith, number-of-four (a .value .now) (a .at) (c .before .before .before .before .before .before .before .before .before .pre))
+    let s = c .before .before .before .before .before .before .before .before .before in
+    four-bytes-spell (s .args .value .now) (s .args .at) _ _ _ _ (s .pre) (c .before .before .before .before .before .before .wide .ensures .0) (c .before .before .before .before .wide2 .ensures .0) (c .before .before .wide3 .ensures .0) (c .wide4 .ensures .0)
 
 pub number-at-spec : {M : Type 1} → statement M
 number-at-spec =

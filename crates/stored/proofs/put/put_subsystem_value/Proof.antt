@@ -19,11 +19,17 @@ put-pair-requires c κs = search needs
 
 -- src/put.rt:125:20
 sub-put-byte : tie.Need-sub-put-byte
-sub-put-byte c = free-starts-within (c .before .before .before .before .before .args .free .now) _ (c .before .before .put-pair .last .0) (c .before .before .put-pair .result) (c .before .before .put-pair .ensures) (2 * numberSize) 1 (length-pair (c .before .before .before .before .before .args .sub .period) (c .before .before .before .before .before .args .sub .budget)) (c .before .before .before .before .before .pre)
+sub-put-byte c =
+    let s = c .before .before .before .before .before in
+    let p = c .before .before .put-pair in
+    free-starts-within (s .args .free .now) _ (p .last .0) (p .result) (p .ensures) (2 * numberSize) 1 (length-pair (s .args .sub .period) (s .args .sub .budget)) (s .pre)
 
 -- src/put.rt:125:20
 part-put-byte-start : tie.Need-part-put-byte-start
-part-put-byte-start c = free-starts-within (c .before .before .before .before .before .args .free .now) _ (c .before .before .put-pair .last .0) (c .before .before .put-pair .result) (c .before .before .put-pair .ensures) (2 * numberSize) 1 (length-pair (c .before .before .before .before .before .args .sub .period) (c .before .before .before .before .before .args .sub .budget)) (c .before .before .before .before .before .pre)
+part-put-byte-start c =
+    let s = c .before .before .before .before .before in
+    let p = c .before .before .put-pair in
+    free-starts-within (s .args .free .now) _ (p .last .0) (p .result) (p .ensures) (2 * numberSize) 1 (length-pair (s .args .sub .period) (s .args .sub .budget)) (s .pre)
 
 -- src/put.rt:125:20
 part-put-byte-end : tie.Need-part-put-byte-end
@@ -31,11 +37,18 @@ part-put-byte-end c = search needs
 
 -- src/put.rt:125:11
 put-byte-requires : tie.Need-put-byte-requires
-put-byte-requires c κs = free-has-room (c .before .before .before .before .before .before .args .free .now) _ (c .before .before .before .put-pair .last .0) (c .before .before .before .put-pair .result) (c .before .before .before .put-pair .ensures) (2 * numberSize) 1 (length-pair (c .before .before .before .before .before .before .args .sub .period) (c .before .before .before .before .before .before .args .sub .budget)) (c .before .before .before .before .before .before .pre)
+put-byte-requires c κs =
+    let s = c .before .before .before .before .before .before in
+    let p = c .before .before .before .put-pair in
+    free-has-room (s .args .free .now) _ (p .last .0) (p .result) (p .ensures) (2 * numberSize) 1 (length-pair (s .args .sub .period) (s .args .sub .budget)) (s .pre)
 
 -- src/put.rt:125:5
 add-at : tie.Need-add-at
-add-at c = omega (arith, end-within (c .before .before .before .before .before .before .before .before .before .args .free .now) _ (c .before .before .before .before .before .before .put-pair .last .0) (c .before .before .before .before .before .before .put-pair .result) (c .before .before .before .before .before .before .put-pair .ensures) (2 * numberSize) 1 (length-pair (c .before .before .before .before .before .before .before .before .before .args .sub .period) (c .before .before .before .before .before .before .before .before .before .args .sub .budget)) (c .before .before .before .before .before .before .before .before .before .pre) _ (c .before .before .put-byte .last .0) (c .before .before .put-byte .result) (c .before .before .put-byte .ensures) refl, c .before .before .before .before .before .before .before .before .before .good .0 .0)
+add-at c =
+    let s = c .before .before .before .before .before .before .before .before .before in
+    let p = c .before .before .before .before .before .before .put-pair in
+    let e = c .before .before .put-byte in
+    omega (arith, end-within (s .args .free .now) _ (p .last .0) (p .result) (p .ensures) (2 * numberSize) 1 (length-pair (s .args .sub .period) (s .args .sub .budget)) (s .pre) _ (e .last .0) (e .result) (e .ensures) refl, s .good .0 .0)
 
 -- src/put.rt:120:1
 same-length : tie.Need-same-length
@@ -44,7 +57,11 @@ same-length c = search needs
 -- src/put.rt:120:1
 returns : tie.Need-returns
 unfolding subsystemValue
-returns c = put-behind (c .before .before .before .before .before .before .before .before .before .args .free .now) _ (c .before .before .before .before .before .before .put-pair .last .0) (c .before .before .before .before .before .before .put-pair .result) (c .before .before .before .before .before .before .put-pair .ensures) _ (c .before .before .put-byte .last .0) (c .before .before .put-byte .result) (c .before .before .put-byte .ensures)
+returns c =
+    let s = c .before .before .before .before .before .before .before .before .before in
+    let p = c .before .before .before .before .before .before .put-pair in
+    let e = c .before .before .put-byte in
+    put-behind (s .args .free .now) _ (p .last .0) (p .result) (p .ensures) _ (e .last .0) (e .result) (e .ensures)
 
 pub put-subsystem-value-spec : {M : Type 1} → statement M
 put-subsystem-value-spec =

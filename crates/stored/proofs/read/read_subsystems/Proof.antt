@@ -51,8 +51,10 @@ zeros-requires c κs = search needs
 returns : tie.Need-returns Inv-loop μ-loop
 returns c =
     let k = c .before .before .before .before .before in
-    let s = c .before .before .before .before .before .before .before .before .before in
-    subsystems-stop (s .args .file .now) (s .args .head .resources) (s .args .head .count) (k .loop .s) (k .loop .at) (k .loop .t) (k .loop .inv) (c .before .before .before .before .loop-test .taken) (c .before .before .before .read-subsystem .result) (c .before .before .before .read-subsystem .ensures) (c .before .enum-told2 .given .0 .0) (c .before .enum-told2 .given .0 .1 .0) (c .zeros .result) (tableIn (s .args .file .now)) (c .before .enum-told2 .given .1) (c .zeros .ensures)
+    let s = k .before .before .before .before in
+    let r = c .before .before .before .read-subsystem in
+    let told = c .before .enum-told2 .given in
+    subsystems-stop (s .args .file .now) (s .args .head .resources) (s .args .head .count) (k .loop .s) (k .loop .at) (k .loop .t) (k .loop .inv) (c .before .before .before .before .loop-test .taken) (r .result) (r .ensures) (told .0 .0) (told .0 .1 .0) (c .zeros .result) (tableIn (s .args .file .now)) (told .1) (c .zeros .ensures)
 
 -- src/read.rt:110:9
 mul-sub : tie.Need-mul-sub Inv-loop μ-loop
@@ -74,8 +76,9 @@ loop-less c = search needs
 loop-again : tie.Need-loop-again Inv-loop μ-loop
 loop-again c =
     let k = c .before .before .before .before .before in
-    let s = c .before .before .before .before .before .before .before .before .before in
-    subsystems-go-on (s .args .file .now) (s .args .head .resources) (s .args .head .count) (k .loop .s) (k .loop .at) (k .loop .t) (k .loop .inv) (c .before .before .before .before .loop-test .taken) (c .before .before .before .read-subsystem .result) (c .before .before .before .read-subsystem .ensures) (c .before .enum-told .given .1) (ap (λ (t : Table). t .resources) (s .pre .0 .1 .1)) (s .pre .0 .0)
+    let s = k .before .before .before .before in
+    let r = c .before .before .before .read-subsystem in
+    subsystems-go-on (s .args .file .now) (s .args .head .resources) (s .args .head .count) (k .loop .s) (k .loop .at) (k .loop .t) (k .loop .inv) (c .before .before .before .before .loop-test .taken) (r .result) (r .ensures) (c .before .enum-told .given .1) (ap (λ (t : Table). t .resources) (s .pre .0 .1 .1)) (s .pre .0 .0)
 
 -- src/read.rt:117:20
 zeros-requires-2 : tie.Need-zeros-requires-2 Inv-loop μ-loop
@@ -85,14 +88,14 @@ zeros-requires-2 c κs = search needs
 returns-2 : tie.Need-returns-2 Inv-loop μ-loop
 returns-2 c =
     let k = c .before .before .before in
-    let s = c .before .before .before .before .before .before .before in
+    let s = k .before .before .before .before in
     left-over-stops (s .args .file .now) (s .args .head .resources) (s .args .head .count) (k .loop .s) (k .loop .at) (k .loop .t) (k .loop .inv) (c .before .before .loop-test .left) (c .zeros2 .result) (tableIn (s .args .file .now)) (c .before .if1 .taken) (c .zeros2 .ensures)
 
 -- src/read.rt:89:1
 returns-3 : tie.Need-returns-3 Inv-loop μ-loop
 returns-3 c =
     let k = c .before .before in
-    let s = c .before .before .before .before .before .before in
+    let s = k .before .before .before .before in
     subsystems-end (s .args .file .now) (s .args .head .resources) (s .args .head .count) (k .loop .s) (k .loop .at) (k .loop .t) (k .loop .inv) (c .before .loop-test .left) (c .if1 .left) (ap (λ (t : Table). t .count) (s .pre .0 .1 .1))
 
 pub read-subsystems-spec : {M : Type 1} → statement M

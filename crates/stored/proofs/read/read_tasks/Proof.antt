@@ -74,7 +74,9 @@ returns : tie.Need-returns Inv-loop μ-loop
 returns c =
     let k = c .before .before .before .before .before .before in
     let s = k .before .before .before in
-    tasks-stop (s .args .file .now) (s .args .m) (s .args .at) (s .args .head .count) (k .loop .i) (k .loop .place) (k .loop .sub) (k .loop .inv) (c .before .before .before .before .before .loop-test .taken) (c .before .before .before .judge .result) (c .before .before .before .judge .ensures) (c .before .enum-told .given .0 .0) (c .answer-at .result) (c .before .enum-told .given .1) (c .answer-at .ensures)
+    let j = c .before .before .before .judge in
+    let told = c .before .enum-told .given in
+    tasks-stop (s .args .file .now) (s .args .m) (s .args .at) (s .args .head .count) (k .loop .i) (k .loop .place) (k .loop .sub) (k .loop .inv) (c .before .before .before .before .before .loop-test .taken) (j .result) (j .ensures) (told .0 .0) (c .answer-at .result) (told .1) (c .answer-at .ensures)
 
 -- src/read.rt:57:32
 value-requires : tie.Need-value-requires Inv-loop μ-loop
@@ -87,11 +89,9 @@ value-requires c κs =
 decode-task-requires : tie.Need-decode-task-requires Inv-loop μ-loop
 decode-task-requires c κs =
     let k = c .before .before .before .before .before .before .before in
-    let s = k .before .before .before in (
-      s .pre .0 .0,
-      le-of-eq
-          (sym (sound-value-length 3 (taskLength (s .args .m)) anyValue (partFrom (s .args .file .now) (k .loop .place)) _ _ (c .before .before .before .before .judge .ensures) (c .before .before .answer .given .1) (c .value .result .now) (c .value .ensures))),
-    )
+    let s = k .before .before .before in
+    let size = sound-value-length 3 (taskLength (s .args .m)) anyValue (partFrom (s .args .file .now) (k .loop .place)) _ _ (c .before .before .before .before .judge .ensures) (c .before .before .answer .given .1) (c .value .result .now) (c .value .ensures) in
+    (s .pre .0 .0, le-of-eq (sym size))
 
 -- src/read.rt:58:9
 mul-task : tie.Need-mul-task Inv-loop μ-loop
@@ -106,22 +106,15 @@ add-place : tie.Need-add-place Inv-loop μ-loop
 add-place c =
     let k = c .before .before .before .before .before .before .before .before in
     let s = k .before .before .before in
-    omega (
-      arith,
-      sound-length 3 (taskLength (s .args .m)) anyValue (partFrom (s .args .file .now) (k .loop .place)) _ _ (c .before .before .before .before .before .judge .ensures) (c .before .before .before .answer .given .1),
-      s .pre .0 .0,
-    )
+    omega (arith, sound-length 3 (taskLength (s .args .m)) anyValue (partFrom (s .args .file .now) (k .loop .place)) _ _ (c .before .before .before .before .before .judge .ensures) (c .before .before .before .answer .given .1), s .pre .0 .0)
 
 -- src/read.rt:59:9
 add-place-2 : tie.Need-add-place-2 Inv-loop μ-loop
 add-place-2 c =
     let k = c .before .before .before .before .before .before .before .before in
     let s = k .before .before .before in
-    omega (
-      arith,
-      whole-within (s .args .file .now) (k .loop .place) _ (k .loop .inv .within) (sound-whole 3 (taskLength (s .args .m)) anyValue (partFrom (s .args .file .now) (k .loop .place)) _ _ (c .before .before .before .before .before .judge .ensures) (c .before .before .before .answer .given .1)),
-      s .good .0 .0,
-    )
+    let whole = sound-whole 3 (taskLength (s .args .m)) anyValue (partFrom (s .args .file .now) (k .loop .place)) _ _ (c .before .before .before .before .before .judge .ensures) (c .before .before .before .answer .given .1) in
+    omega (arith, whole-within (s .args .file .now) (k .loop .place) _ (k .loop .inv .within) whole, s .good .0 .0)
 
 -- src/read.rt:60:9
 add-i : tie.Need-add-i Inv-loop μ-loop
@@ -136,7 +129,8 @@ loop-again : tie.Need-loop-again Inv-loop μ-loop
 loop-again c =
     let k = c .before .before .before .before .before .before .before .before in
     let s = k .before .before .before in
-    tasks-go-on (s .args .file .now) (s .args .m) (s .args .at) (s .args .head .count) (k .loop .i) (k .loop .place) (k .loop .sub) (k .loop .inv) (c .before .before .before .before .before .before .before .loop-test .taken) _ (c .before .before .before .before .before .judge .ensures) _ (c .before .value .result .now) (c .decode-task .result) (c .before .before .before .answer .given .1) (c .before .value .ensures) (c .decode-task .ensures) (s .pre .0 .1 .0)
+    let v = c .before .value in
+    tasks-go-on (s .args .file .now) (s .args .m) (s .args .at) (s .args .head .count) (k .loop .i) (k .loop .place) (k .loop .sub) (k .loop .inv) (c .before .before .before .before .before .before .before .loop-test .taken) _ (c .before .before .before .before .before .judge .ensures) _ (v .result .now) (c .decode-task .result) (c .before .before .before .answer .given .1) (v .ensures) (c .decode-task .ensures) (s .pre .0 .1 .0)
 
 -- src/read.rt:38:1
 returns-2 : tie.Need-returns-2 Inv-loop μ-loop

@@ -21,7 +21,10 @@ enum-known-counts c = search needs
 
 -- src/write.rt:110:9
 returns : tie.Need-returns
-returns c = uncounted (meaning (c .before .before .before .before .before .args .t)) (c .before .before .before .before .before .args .buf .now) _ (c .before .before .before .judge-counts .ensures) (c .before .counts .given .0 .0) (c .before .counts .given .0 .1 .0) (c .before .counts .given .1)
+returns c =
+    let s = c .before .before .before .before .before in
+    let told = c .before .counts .given in
+    uncounted (meaning (s .args .t)) (s .args .buf .now) _ (c .before .before .before .judge-counts .ensures) (told .0 .0) (told .0 .1 .0) (told .1)
 
 enum-told : tie.Need-enum-told
 enum-told c = search needs
@@ -32,11 +35,18 @@ file-length-requires c κs = search needs
 
 -- src/write.rt:114:9
 returns-2 : tie.Need-returns-2
-returns-2 c = no-room (meaning (c .before .before .before .before .before .before .args .t)) (c .before .before .before .before .before .before .args .buf .now) _ (c .before .before .before .before .judge-counts .ensures) (c .before .before .enum-told .given .1) (rw (← c .before .file-length .ensures) (c .if1 .taken))
+returns-2 c =
+    let s = c .before .before .before .before .before .before in
+    no-room (meaning (s .args .t)) (s .args .buf .now) _ (c .before .before .before .before .judge-counts .ensures) (c .before .before .enum-told .given .1)
+    (rw (← c .before .file-length .ensures) (c .if1 .taken))
 
 -- src/write.rt:116:9
 put-file-requires : tie.Need-put-file-requires
-put-file-requires c κs = (counted (c .before .before .before .before .before .before .before .args .t) (sym (c .before .before .before .before .before .judge-counts .ensures) ∙ c .before .before .before .enum-told .given .1) .1, rw (← c .before .before .file-length .ensures) (c .before .if1 .left))
+put-file-requires c κs =
+    (
+      counted (c .before .before .before .before .before .before .before .args .t) (sym (c .before .before .before .before .before .judge-counts .ensures) ∙ c .before .before .before .enum-told .given .1) .1,
+      rw (← c .before .before .file-length .ensures) (c .before .if1 .left),
+    )
 
 -- src/write.rt:104:1
 same-length : tie.Need-same-length
@@ -44,7 +54,12 @@ same-length c = search needs
 
 -- src/write.rt:104:1
 returns-3 : tie.Need-returns-3
-returns-3 c = file-put (meaning (c .before .before .before .before .before .before .before .before .before .before .args .t)) (c .before .before .before .before .before .before .before .before .before .before .args .buf .now) _ (c .before .before .before .before .before .before .before .before .judge-counts .ensures) (c .before .before .before .before .before .before .enum-told .given .1) (c .before .before .put-file .last .0) (c .before .before .put-file .result) (rw (← c .before .before .before .before .before .file-length .ensures) (c .before .before .before .before .if1 .left)) (c .before .before .put-file .ensures)
+returns-3 c =
+    let s = c .before .before .before .before .before .before .before .before .before .before in
+    let put = c .before .before .put-file in
+    file-put (meaning (s .args .t)) (s .args .buf .now) _ (c .before .before .before .before .before .before .before .before .judge-counts .ensures) (c .before .before .before .before .before .before .enum-told .given .1) (put .last .0) (put .result)
+    (rw (← c .before .before .before .before .before .file-length .ensures) (c .before .before .before .before .if1 .left))
+    (put .ensures)
 
 pub write-table-spec : {M : Type 1} → statement M
 write-table-spec =
