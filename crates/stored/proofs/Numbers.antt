@@ -1,12 +1,12 @@
 -- Laws of numbers as bytes: bytes and the number that they spell determine each other. Assumes nothing.
-use Prim.Native.Nat.{ℕ, zero, suc, _+_, _*_, _/_, _%_, _^_, _-_, _≤_, _<_}
+use Prim.Native.Nat.{ℕ, zero, suc, _+_, _*_, _/_, _%_, _^_, _≤_, _<_}
 use native.Mathlib.Nat.{mod-lt, mod-eq-of-lt, mul-assoc, pow-succ', div-one, mod-one, pow-le-pow-right, mul-add-div-right, mul-add-mod-self-right}
 use native.Mathlib.Numerals.{add-one, add-two, add-three}
 use native.Mathlib.Omega.{arith}
 use mathlib.Core.Path.{_≡_, refl, sym, ap, ap₂, _∙_}
-use mathlib.Core.List.{List, [], _∷_, _++_}
-use lib.Arith.{digits-div, digits-mod, digits-lt, mod-mul}
-use lib.ListN.{length, getD, take, drop, set}
+use mathlib.Core.List.{List, [], _∷_}
+use lib.Arith.{digits-div, digits-lt, mod-mul}
+use lib.ListN.{length, getD, drop, set}
 use lib.Seq.{drop-cons}
 use Rattle.stored.specs.Numbers.{bigEndian, spelled, numberAt, AreBytes}
 
@@ -77,14 +77,15 @@ spelled-four a b c d = omega arith
 number-of-four : (bs : List ℕ) (at : ℕ) → at + 4 ≤ length bs → numberAt bs at ≡ getD bs at 0 * 16777216 + getD bs (at + 1) 0 * 65536 + getD bs (at + 2) 0 * 256 + getD bs (at + 3) 0
 unfolding numberAt
 number-of-four bs at h =
-    rw
-    (add-one,
-    add-two,
-    add-three,
-    drop-cons bs at 0 (omega arith),
-    drop-cons bs (suc at) 0 (omega arith),
-    drop-cons bs (suc (suc at)) 0 (omega arith),
-    drop-cons bs (suc (suc (suc at))) 0 (omega arith))
+    rw (
+      add-one,
+      add-two,
+      add-three,
+      drop-cons bs at 0 (omega arith),
+      drop-cons bs (suc at) 0 (omega arith),
+      drop-cons bs (suc (suc at)) 0 (omega arith),
+      drop-cons bs (suc (suc (suc at))) 0 (omega arith),
+    )
     (spelled-four (getD bs at 0) (getD bs (suc at) 0) (getD bs (suc (suc at)) 0) (getD bs (suc (suc (suc at))) 0))
 
 -- Four bytes, each weighed by its place, make the number that they spell.

@@ -1,3 +1,5 @@
+-- `stored::put::put_header` meets its contract: the value stands behind tag and length, and makes the field with them.
+-- Assumes nothing.
 use native.Mathlib.Omega.{arith}
 use borrow.Author.Needs.{needs}
 use Rattle.stored.proofs.FileLaws.{length-headerValue}
@@ -6,41 +8,31 @@ use Rattle.stored.specs.Field.{startSize, headerLength}
 use Rattle.stored.proofs.WriteSteps.{free-starts-within, free-has-room, end-within, put-behind, put-the-same, length-start, field-of-start}
 use Rattle.stored.proofs.put.put_header.Statement.{statement}
 use Rattle.stored.proofs.put.put_header.Tie as tie
-use Rattle.stored.proofs.put.put_header.Reads as reads
-use Rattle.stored.proofs.put.put_header.Lts as lts
-use Rattle.stored.proofs.put.put_header_value.Reads as put-header-value-reads
-use Rattle.stored.proofs.put.put_start.Reads as put-start-reads
 
--- src/put.rt:50:9
 put-start-requires : tie.Need-put-start-requires
 put-start-requires c κs = search needs
 
--- src/put.rt:51:28
 sub-put-header-value : tie.Need-sub-put-header-value
 sub-put-header-value c =
     let s = c .before .before .before .before .before in
     let p = c .before .before .put-start in
     free-starts-within (s .args .free .now) _ (p .last .0) (p .result) (p .ensures) startSize headerLength (length-start 1 3) (s .pre)
 
--- src/put.rt:51:28
 part-put-header-value-start : tie.Need-part-put-header-value-start
 part-put-header-value-start c =
     let s = c .before .before .before .before .before in
     let p = c .before .before .put-start in
     free-starts-within (s .args .free .now) _ (p .last .0) (p .result) (p .ensures) startSize headerLength (length-start 1 3) (s .pre)
 
--- src/put.rt:51:28
 part-put-header-value-end : tie.Need-part-put-header-value-end
 part-put-header-value-end c = search needs
 
--- src/put.rt:51:11
 put-header-value-requires : tie.Need-put-header-value-requires
 put-header-value-requires c κs =
     let s = c .before .before .before .before .before .before in
     let p = c .before .before .before .put-start in
     free-has-room (s .args .free .now) _ (p .last .0) (p .result) (p .ensures) startSize headerLength (length-start 1 3) (s .pre)
 
--- src/put.rt:51:5
 add-at : tie.Need-add-at
 add-at c =
     let s = c .before .before .before .before .before .before .before .before .before in
@@ -48,11 +40,9 @@ add-at c =
     let e = c .before .before .put-header-value in
     omega (arith, end-within (s .args .free .now) _ (p .last .0) (p .result) (p .ensures) startSize headerLength (length-start 1 3) (s .pre) _ (e .last .0) (e .result) (e .ensures) (length-headerValue (s .args .n) (s .args .m)), s .good .0 .0)
 
--- src/put.rt:46:1
 same-length : tie.Need-same-length
 same-length c = search needs
 
--- src/put.rt:46:1
 returns : tie.Need-returns
 returns c =
     let s = c .before .before .before .before .before .before .before .before .before in

@@ -1,3 +1,4 @@
+-- `stored::put::put_task_value` meets its contract: the accesses stand behind the times. Assumes nothing.
 use native.Mathlib.Omega.{arith}
 use borrow.Author.Needs.{needs}
 use Prim.Native.Nat.{_*_}
@@ -9,41 +10,31 @@ use Rattle.stored.proofs.FileLaws.{length-times, length-access-bytes}
 use Rattle.stored.proofs.WriteSteps.{free-starts-within, free-has-room, end-within, put-behind}
 use Rattle.stored.proofs.put.put_task_value.Statement.{statement}
 use Rattle.stored.proofs.put.put_task_value.Tie as tie
-use Rattle.stored.proofs.put.put_task_value.Reads as reads
-use Rattle.stored.proofs.put.put_task_value.Lts as lts
-use Rattle.stored.proofs.put.put_accesses.Reads as put-accesses-reads
-use Rattle.stored.proofs.put.put_times.Reads as put-times-reads
 
--- src/put.rt:96:9
 put-times-requires : tie.Need-put-times-requires
 put-times-requires c κs = search needs
 
--- src/put.rt:97:24
 sub-put-accesses : tie.Need-sub-put-accesses
 sub-put-accesses c =
     let s = c .before .before .before .before .before in
     let p = c .before .before .put-times in
     free-starts-within (s .args .free .now) _ (p .last .0) (p .result) (p .ensures) (taskLength 0) (numberSize * s .args .m) (length-times (s .args .task .separation) (s .args .task .work) (s .args .task .deadline)) (s .pre .1)
 
--- src/put.rt:97:24
 part-put-accesses-start : tie.Need-part-put-accesses-start
 part-put-accesses-start c =
     let s = c .before .before .before .before .before in
     let p = c .before .before .put-times in
     free-starts-within (s .args .free .now) _ (p .last .0) (p .result) (p .ensures) (taskLength 0) (numberSize * s .args .m) (length-times (s .args .task .separation) (s .args .task .work) (s .args .task .deadline)) (s .pre .1)
 
--- src/put.rt:97:24
 part-put-accesses-end : tie.Need-part-put-accesses-end
 part-put-accesses-end c = search needs
 
--- src/put.rt:97:11
 put-accesses-requires : tie.Need-put-accesses-requires
 put-accesses-requires c κs =
     let s = c .before .before .before .before .before .before in
     let p = c .before .before .before .put-times in
     (s .pre .0, rw length-access-bytes (free-has-room (s .args .free .now) _ (p .last .0) (p .result) (p .ensures) (taskLength 0) (numberSize * s .args .m) (length-times (s .args .task .separation) (s .args .task .work) (s .args .task .deadline)) (s .pre .1)))
 
--- src/put.rt:97:5
 add-at : tie.Need-add-at
 add-at c =
     let s = c .before .before .before .before .before .before .before .before .before in
@@ -51,11 +42,9 @@ add-at c =
     let e = c .before .before .put-accesses in
     omega (arith, end-within (s .args .free .now) _ (p .last .0) (p .result) (p .ensures) (taskLength 0) (numberSize * s .args .m) (length-times (s .args .task .separation) (s .args .task .work) (s .args .task .deadline)) (s .pre .1) _ (e .last .0) (e .result) (e .ensures) (length-access-bytes (s .args .task) (s .args .m)), s .good .0 .0)
 
--- src/put.rt:92:1
 same-length : tie.Need-same-length
 same-length c = search needs
 
--- src/put.rt:92:1
 returns : tie.Need-returns
 unfolding taskValue taskM
 returns c =
