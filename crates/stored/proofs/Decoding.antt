@@ -1,6 +1,6 @@
 -- Laws of the decoders: a task's accesses are filled in one after the other. Assumes nothing.
 use Prim.Native.Nat.{ℕ, _+_, _<_}
-use mathlib.Core.Path.{_≡_, refl, sym, ap, _∙_}
+use mathlib.Core.Path.{_≡_, ap}
 use mathlib.Core.List.{List}
 use lib.ListN.{set}
 use Rattle.lists.proofs.UpTo.{padded-set}

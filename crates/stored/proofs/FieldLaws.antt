@@ -1,18 +1,18 @@
 -- Laws of fields and values, both ways: what a field says is what was put into it, and a sound field is the field of
 -- what it says. Assumes nothing.
-use Prim.Native.Nat.{ℕ, zero, suc, _+_, _*_, _-_, _^_, _≤_, _<_}
+use Prim.Native.Nat.{ℕ, zero, suc, _+_, _^_, _≤_, _<_}
 use native.Mathlib.Omega.{arith}
 use mathlib.Core.Path.{_≡_, refl, sym, ap, ap₂, _∙_}
 use mathlib.Core.Bool.{Bool, true}
-use mathlib.Core.List.{List, [], _∷_, _++_, append-assoc}
+use mathlib.Core.List.{List, [], _∷_, _++_}
 use lib.ListN.{length, getD, take, drop, length-append, length-drop, length-take}
-use lib.Seq.{take-at, drop-at, take-add, take-all, drop-cons, getD-drop, getD-take}
+use lib.Seq.{take-at, drop-at, take-add, getD-drop}
 use Rattle.stored.specs.Numbers.{bigEndian, spelled, numberSize, numberAt, AreBytes}
 use Rattle.stored.specs.Field.{startSize, fieldSize, field, tagOf, statedLength, valueOf}
 use Rattle.stored.specs.File.{numberBytes}
 use Rattle.stored.proofs.Numbers.{length-bigEndian, spelled-of-bigEndian, bigEndian-of-spelled}
 use Rattle.stored.proofs.Judging.{SoundField, length-valueOf}
-use Rattle.stored.proofs.FileLaws.{length-field, length-numberBytes}
+use Rattle.stored.proofs.FileLaws.{length-field}
 
 ------------------------------------------------------------------------
 -- A field at the start of the rest of a file

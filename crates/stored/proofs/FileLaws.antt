@@ -1,10 +1,10 @@
 -- Laws of a file's bytes: lists of fields grow field by field, and how long each part is. Assumes nothing.
-use Prim.Native.Nat.{ℕ, zero, suc, _+_, _*_, _-_, _≤_, _<_}
+use Prim.Native.Nat.{ℕ, zero, suc, _+_, _*_, _≤_, _<_}
 use native.Mathlib.Nat.{zero-mul, suc-mul, mul-comm, eq-or-lt-of-le, le-trans}
 use native.Mathlib.Numerals.{add-one}
 use native.Mathlib.Omega.{arith}
-use mathlib.Core.Path.{_≡_, refl, sym, ap, ap₂, _∙_}
-use mathlib.Core.Logic.{_⊎_, ⊎-elim}
+use mathlib.Core.Path.{_≡_, refl, sym, ap, _∙_}
+use mathlib.Core.Logic.{⊎-elim}
 use mathlib.Core.List.{List, [], _∷_, _++_, append-assoc, append-nil, flatMap}
 use lib.ListN.{length, getD, length-append}
 use Rattle.lists.specs.Range.{upTo}
@@ -12,8 +12,7 @@ use Rattle.lists.proofs.UpTo.{length-upTo}
 use Rattle.table.specs.declared.Task.{Task}
 use Rattle.table.specs.declared.Subsystem.{Subsystem}
 use Rattle.table.specs.declared.Table.{Table}
-use Rattle.table.specs.Meaning.{TaskM, SubsystemM, System, accessAt, taskM, taskAt, subsystemM, subsystemAt, meaning, pastSubsystems}
-use Rattle.table.specs.Parts.{taskCount, subsystemCount}
+use Rattle.table.specs.Meaning.{TaskM, accessAt, taskM, taskAt, subsystemM, subsystemAt, meaning, pastSubsystems}
 use Rattle.table.proofs.Parts.{count-of-tasks, count-of-subsystems}
 use Rattle.stored.specs.Numbers.{numberSize}
 use Rattle.stored.specs.Field.{field, fieldSize, headerTag, headerLength, subsystemTag, subsystemLength, taskTag, taskLength}
@@ -115,10 +114,6 @@ length-access-bytes t m = length-accesses (upTo (accessAt t) m) ∙ ap (λ (k : 
 pub length-taskValue : (t : TaskM) → length (taskValue t) ≡ taskLength (length (t .accesses))
 unfolding taskValue timesBytes
 length-taskValue t = simp (length-append, length-numberBytes, length-accesses) (omega arith)
-
-pub length-taskField : (t : TaskM) → length (taskField t) ≡ fieldSize (taskLength (length (t .accesses)))
-unfolding taskField
-length-taskField t = length-field taskTag (taskValue t) ∙ ap fieldSize (length-taskValue t)
 
 -- The tasks of a table's subsystem all have M accesses, so their fields are equally long.
 pub length-task-value : (m : ℕ) (t : Task) → length (taskValue (taskM m t)) ≡ taskLength m

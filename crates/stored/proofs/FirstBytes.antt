@@ -1,29 +1,21 @@
 -- The first bytes of an input decide: a judge looks no further than the field that is due, and so no reader looks
 -- further than the longest file. Assumes nothing.
-use Prim.Native.Nat.{ℕ, zero, suc, _+_, _*_, _-_, _≤_, _<_, min}
-use native.Mathlib.Nat.{suc-sub-suc, sub-zero, mul-le-mul}
-use native.Mathlib.Numerals.{add-one}
+use Prim.Native.Nat.{ℕ, zero, suc, _-_, _≤_, _<_}
+use native.Mathlib.Nat.{suc-sub-suc, sub-zero}
 use native.Mathlib.Omega.{arith}
-use borrow.Author.Tests.{eqb-true, eqb-false, lt-ltb}
-use mathlib.Core.Path.{_≡_, refl, sym, ap, ap₂, _∙_}
-use mathlib.Core.Logic.{_⊎_, inl, inr, ⊎-elim}
+use borrow.Author.Tests.{eqb-true, eqb-false}
+use mathlib.Core.Path.{_≡_, refl, sym, ap, _∙_}
+use mathlib.Core.Logic.{⊎-elim}
 use mathlib.Core.Bool.{Bool, true, false, not}
-use mathlib.Core.Option.{Option, none, some}
 use mathlib.Core.List.{List, [], _∷_}
-use lib.Dec.{eqb, ltb}
-use lib.ListN.{length, getD, take, drop, length-take}
+use lib.Dec.{eqb}
+use lib.ListN.{length, take, drop, length-take}
 use lib.Seq.{take-all, take-take, take-nil, getD-take}
-use Rattle.lists.specs.Range.{orElse, firstOf}
-use Rattle.lists.proofs.First.{firstOf-ext}
 use Rattle.lists.proofs.Over.{le-or-lt}
-use Rattle.table.specs.Limits.{most}
-use Rattle.table.specs.declared.Subsystem.{Subsystem}
-use Rattle.table.specs.declared.Table.{Table}
-use Rattle.stored.specs.declared.FieldAnswer.{FieldAnswer}
-use Rattle.stored.specs.declared.FieldAnswer.the-variants.{Sound, Faulty}
+use Rattle.stored.specs.declared.FieldAnswer.the-variants.{Sound}
 use Rattle.stored.specs.declared.Fault.the-variants.{OutOfRange}
 use Rattle.stored.specs.Numbers.{spelled}
-use Rattle.stored.specs.Field.{startSize, fieldSize, tagOf, statedLength, valueOf, headerLength, subsystemLength, taskLength}
+use Rattle.stored.specs.Field.{startSize, fieldSize, tagOf, statedLength, valueOf}
 use Rattle.stored.specs.Judge.{refuseIf, judgeField}
 use Rattle.stored.proofs.Judging.{judges-other-tag, judges-other-length, judges-by-range}
 

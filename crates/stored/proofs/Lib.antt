@@ -17,3 +17,4 @@ pub mod FirstBytes
 pub mod MoreRange
 pub mod LongInput
 pub mod RoundTrips
+pub mod HeldLaws

@@ -2,15 +2,14 @@
 -- Assumes nothing.
 use Prim.Native.Nat.{ℕ, zero, suc, _+_, _*_, _-_, _≤_, _<_}
 use native.Mathlib.Nat.{mul-le-mul}
-use native.Mathlib.Numerals.{add-one}
 use native.Mathlib.Omega.{arith}
-use borrow.Author.Tests.{lt-ltb, leb-true, not-true}
-use mathlib.Core.Path.{_≡_, refl, sym, ap, ap₂, _∙_}
-use mathlib.Core.Logic.{_⊎_, inl, inr, ⊎-elim}
-use mathlib.Core.Bool.{Bool, true, false, not, cond, _&&_}
+use borrow.Author.Tests.{lt-ltb, leb-true}
+use mathlib.Core.Path.{_≡_, refl, sym, ap, _∙_}
+use mathlib.Core.Logic.{⊎-elim}
+use mathlib.Core.Bool.{Bool, not, _&&_}
 use mathlib.Core.Option.{Option, none, some}
-use mathlib.Core.List.{List, []}
-use lib.Dec.{ltb, leb, eqb}
+use mathlib.Core.List.{List}
+use lib.Dec.{leb, eqb}
 use lib.ListN.{length, getD, take, drop, length-take}
 use lib.Seq.{take-all}
 use Rattle.lists.specs.Range.{orElse, firstOf}
@@ -18,17 +17,14 @@ use Rattle.lists.proofs.First.{firstOf-ext, firstOf-none}
 use Rattle.lists.proofs.Over.{le-or-lt}
 use Rattle.table.specs.Limits.{most}
 use Rattle.table.specs.declared.Subsystem.{Subsystem}
-use Rattle.table.specs.declared.Table.{Table}
 use Rattle.rules.specs.Rules.{countOut}
 use Rattle.stored.specs.declared.FieldAnswer.{FieldAnswer}
 use Rattle.stored.specs.declared.FieldAnswer.the-variants.{Sound, Faulty}
-use Rattle.stored.specs.declared.Fault.the-variants.{LeftOver}
-use Rattle.stored.specs.declared.Reading.{Reading}
-use Rattle.stored.specs.Field.{fieldSize, valueOf, version, headerTag, headerLength, subsystemTag, subsystemLength, countAt, taskTag, taskLength}
-use Rattle.stored.specs.Judge.{headerInRange, subsystemInRange, anyValue, judgeField, judgeHeader, judgeSubsystem, judgeTask}
+use Rattle.stored.specs.Field.{fieldSize, valueOf, version, headerTag, headerLength, subsystemTag, subsystemLength, taskTag, taskLength}
+use Rattle.stored.specs.Judge.{headerInRange, subsystemInRange, anyValue, judgeField, judgeHeader, judgeSubsystem}
 use Rattle.stored.specs.Decode.{decodedHeader, decodedSubsystem}
 use Rattle.stored.specs.File.{largestFile, enough}
-use Rattle.stored.specs.Read.{Refusal, refusedAt, headerIn, headAt, taskPlace, placeBehind, subsystemPlace, taskRefusal, tasksRefusal, refusalFrom, subsystemRefusal, leftOver, bodyRefusal, refusalIn, tableIn, readingOf, readOf}
+use Rattle.stored.specs.Read.{Refusal, refusedAt, headerIn, headAt, taskPlace, placeBehind, subsystemPlace, taskRefusal, tasksRefusal, refusalFrom, subsystemRefusal, leftOver, bodyRefusal, refusalIn, readOf}
 use Rattle.stored.proofs.Judging.{SoundField, sound-means}
 use Rattle.stored.proofs.ReadTasks.{one-task-further}
 use Rattle.stored.proofs.ReadSubsystems.{count-in-range, and-left, and-right}

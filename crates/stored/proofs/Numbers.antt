@@ -1,12 +1,12 @@
 -- Laws of numbers as bytes: bytes and the number that they spell determine each other. Assumes nothing.
-use Prim.Native.Nat.{ℕ, zero, suc, _+_, _*_, _/_, _%_, _^_, _-_, _≤_, _<_}
+use Prim.Native.Nat.{ℕ, zero, suc, _+_, _*_, _/_, _%_, _^_, _≤_, _<_}
 use native.Mathlib.Nat.{mod-lt, mod-eq-of-lt, mul-assoc, pow-succ', div-one, mod-one, pow-le-pow-right, mul-add-div-right, mul-add-mod-self-right}
 use native.Mathlib.Numerals.{add-one, add-two, add-three}
 use native.Mathlib.Omega.{arith}
 use mathlib.Core.Path.{_≡_, refl, sym, ap, ap₂, _∙_}
-use mathlib.Core.List.{List, [], _∷_, _++_}
-use lib.Arith.{digits-div, digits-mod, digits-lt, mod-mul}
-use lib.ListN.{length, getD, take, drop, set}
+use mathlib.Core.List.{List, [], _∷_}
+use lib.Arith.{digits-div, digits-lt, mod-mul}
+use lib.ListN.{length, getD, drop, set}
 use lib.Seq.{drop-cons}
 use Rattle.stored.specs.Numbers.{bigEndian, spelled, numberAt, AreBytes}
 
@@ -74,7 +74,7 @@ spelled-four : (a b c d : ℕ) → spelled (a ∷ b ∷ c ∷ d ∷ []) ≡ a * 
 unfolding spelled
 spelled-four a b c d = omega arith
 
-pub number-of-four : (bs : List ℕ) (at : ℕ) → at + 4 ≤ length bs → numberAt bs at ≡ getD bs at 0 * 16777216 + getD bs (at + 1) 0 * 65536 + getD bs (at + 2) 0 * 256 + getD bs (at + 3) 0
+number-of-four : (bs : List ℕ) (at : ℕ) → at + 4 ≤ length bs → numberAt bs at ≡ getD bs at 0 * 16777216 + getD bs (at + 1) 0 * 65536 + getD bs (at + 2) 0 * 256 + getD bs (at + 3) 0
 unfolding numberAt
 number-of-four bs at h =
     rw (
@@ -87,6 +87,10 @@ number-of-four bs at h =
       drop-cons bs (suc (suc (suc at))) 0 (omega arith),
     )
     (spelled-four (getD bs at 0) (getD bs (suc at) 0) (getD bs (suc (suc at)) 0) (getD bs (suc (suc (suc at))) 0))
+
+-- Four bytes, each weighed by its place, make the number that they spell.
+pub four-bytes-spell : (bs : List ℕ) (at a b c d : ℕ) → at + 4 ≤ length bs → a ≡ getD bs at 0 → b ≡ getD bs (at + 1) 0 → c ≡ getD bs (at + 2) 0 → d ≡ getD bs (at + 3) 0 → a * 16777216 + b * 65536 + c * 256 + d ≡ numberAt bs at
+four-bytes-spell bs at a b c d h ea eb ec ed = rw (ea, eb, ec, ed) (sym (number-of-four bs at h))
 
 pub four-stores : (buf : List ℕ) (a b c d : ℕ) → 4 ≤ length buf → set (set (set (set buf 0 a) 1 b) 2 c) 3 d ≡ a ∷ b ∷ c ∷ d ∷ drop 4 buf
 four-stores [] a b c d h = absurd (omega arith)

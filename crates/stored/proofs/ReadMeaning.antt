@@ -1,13 +1,10 @@
 -- What a table that is read means, part by part. Assumes nothing.
 use Prim.Native.Nat.{ℕ, _<_}
-use mathlib.Core.Path.{_≡_, refl, ap, _∙_}
+use mathlib.Core.Path.{_≡_, ap}
 use mathlib.Core.List.{List}
-use Rattle.lists.specs.Range.{upTo}
 use Rattle.lists.proofs.UpTo.{getD-padded}
 use Rattle.table.specs.Limits.{most}
 use Rattle.table.specs.Zeros.{zeroTask, zeroSubsystem}
-use Rattle.table.specs.declared.Task.{Task}
-use Rattle.table.specs.declared.Subsystem.{Subsystem}
 use Rattle.table.specs.Meaning.{pastTasks, pastSubsystems, taskM, taskAt, subsystemM, subsystemAt}
 use Rattle.stored.specs.Read.{headerIn, headAt, subsystemPlace, taskRead, subsystemTo, subsystemFrom, subsystemRead, tableTo, tableIn}
 

@@ -1,17 +1,17 @@
 -- The reader at the subsystems and at the header: what it knows before each, and what a judgement makes of that.
 -- Assumes nothing.
-use Prim.Native.Nat.{ℕ, zero, suc, _+_, _-_, _≤_, _<_}
+use Prim.Native.Nat.{ℕ, _+_, _-_, _≤_, _<_}
 use native.Mathlib.Nat.{sub-zero}
 use native.Mathlib.Numerals.{add-one}
 use native.Mathlib.Omega.{arith}
 use borrow.Author.Tests.{lt-ltb, le-ltb, leb-true, not-true}
 use mathlib.Core.Path.{_≡_, refl, sym, ap, _∙_}
-use mathlib.Core.Bool.{Bool, true, false, cond, not, _&&_}
+use mathlib.Core.Bool.{Bool, true, false, not, _&&_}
 use mathlib.Core.Option.{Option, none, some, Option·some-ne-none}
 use mathlib.Core.List.{List}
-use lib.Dec.{leb, ltb, eqb}
+use lib.Dec.{leb, eqb}
 use lib.ListN.{length, drop, set, getD}
-use Rattle.lists.specs.Range.{orElse, firstOf, padded}
+use Rattle.lists.specs.Range.{orElse, firstOf}
 use Rattle.lists.proofs.First.{firstOf-here, firstOf-next, firstOf-over}
 use Rattle.lists.proofs.UpTo.{padded-set, padded-none}
 use Rattle.table.specs.Limits.{most}
@@ -31,8 +31,8 @@ use Rattle.stored.specs.declared.SubsystemReading.{SubsystemReading}
 use Rattle.stored.specs.Field.{fieldSize, valueOf, headerTag, headerLength, subsystemTag, subsystemLength, version}
 use Rattle.stored.specs.Judge.{headerInRange, subsystemInRange, judgeHeader, judgeSubsystem}
 use Rattle.stored.specs.Decode.{decodedHeader, decodedSubsystem}
-use Rattle.stored.specs.Read.{Refusal, refusedAt, wholeUnless, zerosIf, readingOf, headerIn, headAt, taskPlace, placeBehind, subsystemPlace, tasksRefusal, refusalFrom, subsystemRefusal, leftOver, bodyRefusal, refusalIn, subsystemFrom, subsystemRead, tableTo, tableIn, IsReading, readOf}
-use Rattle.stored.proofs.Judging.{sound-length, sound-whole, sound-value, sound-means, SoundField}
+use Rattle.stored.specs.Read.{Refusal, refusedAt, wholeUnless, readingOf, headerIn, headAt, taskPlace, placeBehind, subsystemPlace, tasksRefusal, refusalFrom, subsystemRefusal, leftOver, bodyRefusal, refusalIn, subsystemFrom, subsystemRead, tableTo, tableIn, IsReading, readOf}
+use Rattle.stored.proofs.Judging.{sound-length, sound-whole, sound-value, sound-means}
 use Rattle.stored.proofs.ReadTasks.{partFrom, part-to-the-end, whole-within}
 
 ------------------------------------------------------------------------

@@ -1,14 +1,14 @@
 -- The reader at the tasks of a subsystem: what it knows before each task, and what a judgement makes of that.
 -- Assumes nothing.
-use Prim.Native.Nat.{ℕ, zero, suc, _+_, _*_, _-_, _≤_, _<_}
+use Prim.Native.Nat.{ℕ, _+_, _-_, _≤_, _<_}
 use native.Mathlib.Nat.{add-mul, one-mul, sub-zero}
 use native.Mathlib.Omega.{arith}
-use mathlib.Core.Path.{_≡_, refl, sym, ap, _∙_}
-use mathlib.Core.Option.{Option, none, some, Option·some-ne-none}
+use mathlib.Core.Path.{_≡_, sym, ap, _∙_}
+use mathlib.Core.Option.{some, Option·some-ne-none}
 use mathlib.Core.List.{List}
-use lib.ListN.{length, take, drop, set, length-drop, length-take}
+use lib.ListN.{length, take, drop, set, length-drop}
 use lib.Seq.{take-all}
-use Rattle.lists.specs.Range.{firstOf, padded}
+use Rattle.lists.specs.Range.{firstOf}
 use Rattle.lists.proofs.First.{firstOf-here, firstOf-next, firstOf-over}
 use Rattle.lists.proofs.UpTo.{padded-set, padded-none}
 use Rattle.table.specs.Limits.{most}
@@ -23,7 +23,7 @@ use Rattle.stored.specs.declared.ReadAnswer.the-variants.{Whole}
 use Rattle.stored.specs.Field.{fieldSize, valueOf, taskTag, taskLength}
 use Rattle.stored.specs.Judge.{anyValue, judgeTask}
 use Rattle.stored.specs.Decode.{decodedSubsystem, decodedTask}
-use Rattle.stored.specs.Read.{Refusal, refusedAt, wholeUnless, headAt, taskPlace, placeBehind, taskRefusal, tasksRefusal, taskRead, subsystemTo, subsystemFrom, IsReading}
+use Rattle.stored.specs.Read.{refusedAt, wholeUnless, headAt, taskPlace, placeBehind, taskRefusal, tasksRefusal, taskRead, subsystemTo, subsystemFrom, IsReading}
 use Rattle.stored.proofs.Judging.{sound-length, sound-whole, sound-value}
 
 ------------------------------------------------------------------------

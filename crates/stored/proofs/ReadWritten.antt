@@ -7,24 +7,22 @@ use borrow.Author.Tests.{ltb-false}
 use mathlib.Core.Path.{_≡_, refl, sym, ap, ap₂, _∙_}
 use mathlib.Core.Bool.{Bool, true, false, cond}
 use mathlib.Core.Option.{Option, none, some, Option·some-ne-none}
-use mathlib.Core.List.{List, [], _∷_, _++_, append-nil, append-assoc, flatMap}
+use mathlib.Core.List.{List, _++_, append-nil, append-assoc, flatMap}
 use lib.Dec.{ltb}
-use lib.ListN.{length, getD, take, drop}
+use lib.ListN.{length, take, drop}
 use lib.Seq.{take-add, take-all, drop-drop, getD-drop}
 use Rattle.lists.specs.Range.{orElse, firstOf, upTo}
 use Rattle.lists.proofs.First.{firstOf-none}
-use Rattle.table.specs.declared.Subsystem.{Subsystem}
-use Rattle.table.specs.declared.Table.{Table}
-use Rattle.table.specs.Meaning.{TaskM, taskM, taskAt, subsystemM, subsystemAt, meaning}
+use Rattle.table.specs.Meaning.{taskAt, subsystemM, subsystemAt, meaning}
 use Rattle.stored.specs.declared.Fault.the-variants.{LeftOver}
 use Rattle.stored.specs.declared.FieldAnswer.{FieldAnswer}
 use Rattle.stored.specs.declared.FieldAnswer.the-variants.{Sound, Faulty}
-use Rattle.stored.specs.Numbers.{numberSize, numberAt, AreBytes}
-use Rattle.stored.specs.Field.{startSize, fieldSize, field, valueOf, headerTag, headerLength, subsystemTag, subsystemLength, countAt, taskTag, taskLength}
-use Rattle.stored.specs.Judge.{headerInRange, subsystemInRange, anyValue, judgeField, judgeHeader, judgeSubsystem, judgeTask}
-use Rattle.stored.specs.Decode.{decodedHeader, decodedSubsystem, decodedTask}
+use Rattle.stored.specs.Numbers.{AreBytes}
+use Rattle.stored.specs.Field.{startSize, fieldSize, field, valueOf, headerTag, headerLength, subsystemTag, subsystemLength, taskTag, taskLength}
+use Rattle.stored.specs.Judge.{headerInRange, subsystemInRange, anyValue, judgeField, judgeHeader, judgeSubsystem}
+use Rattle.stored.specs.Decode.{decodedHeader, decodedSubsystem}
 use Rattle.stored.specs.File.{headerValue, subsystemValue, taskValue, taskField, subsystemBytes, fileOf}
-use Rattle.stored.specs.Read.{Refusal, refusedAt, headerIn, headAt, taskPlace, placeBehind, subsystemPlace, taskRefusal, tasksRefusal, refusalFrom, subsystemRefusal, leftOver, bodyRefusal, refusalIn, taskRead, subsystemTo, subsystemFrom, subsystemRead, tableTo, tableIn}
+use Rattle.stored.specs.Read.{Refusal, refusedAt, headerIn, headAt, taskPlace, placeBehind, subsystemPlace, taskRefusal, tasksRefusal, refusalFrom, subsystemRefusal, leftOver, bodyRefusal, refusalIn, taskRead, subsystemTo, subsystemFrom, tableTo, tableIn}
 use Rattle.stored.proofs.Judging.{SoundField, sound-means, length-valueOf}
 use Rattle.stored.proofs.FileLaws.{flatMap-none, flatMap-one-more, file-bytes, subsystem-bytes}
 use Rattle.stored.proofs.FieldLaws.{bytes-of-part, sound-is-field}

@@ -1,9 +1,8 @@
 -- The theorems on files and tables, over the definitions of what a read gives and what a write leaves. Assumes nothing.
 use Prim.Native.Nat.{ℕ, zero, suc, _+_, _*_, _≤_, _<_}
-use native.Mathlib.Nat.{suc-mul, zero-mul, le-refl}
+use native.Mathlib.Nat.{le-refl}
 use native.Mathlib.Numerals.{add-one}
 use native.Mathlib.Omega.{arith}
-use borrow.Author.Tests.{ltb-false}
 use mathlib.Core.Path.{_≡_, refl, sym, ap, _∙_}
 use mathlib.Core.Bool.{Bool, true, false, cond}
 use mathlib.Core.Option.{Option, none, some}
@@ -21,13 +20,12 @@ use Rattle.rules.specs.declared.Judged.the-variants.{Admitted, Refused}
 use Rattle.stored.specs.declared.Fault.{Fault}
 use Rattle.stored.specs.declared.Fault.the-variants.{Short}
 use Rattle.stored.specs.declared.ReadAnswer.the-variants.{Whole, Refused as RefusedFile}
-use Rattle.stored.specs.declared.WriteAnswer.{WriteAnswer}
-use Rattle.stored.specs.declared.WriteAnswer.the-variants.{Written, Uncounted, NoRoom}
+use Rattle.stored.specs.declared.WriteAnswer.the-variants.{Written, NoRoom}
 use Rattle.stored.specs.Numbers.{AreBytes}
-use Rattle.stored.specs.Field.{fieldSize, headerLength, subsystemLength, taskLength}
+use Rattle.stored.specs.Field.{fieldSize, headerLength}
 use Rattle.stored.specs.File.{subsystemBytes, fileOf, largestFile}
 use Rattle.stored.specs.Judge.{judgeField}
-use Rattle.stored.specs.Read.{Refusal, refusalIn, wholeUnless, zerosIf, tableIn, readingOf, readOf}
+use Rattle.stored.specs.Read.{Refusal, refusalIn, wholeUnless, zerosIf, tableIn, readOf}
 use Rattle.stored.specs.Write.{written, countsJudged, answerFor, writeOf, bufferAfter}
 use Rattle.stored.specs.Held.{Held}
 use Rattle.stored.proofs.ReadSubsystems.{whole-is-unrefused}

@@ -1,32 +1,30 @@
 -- Laws of the values of the three kinds of field, both ways: decoding what was put gives it back, and putting what was
 -- decoded gives the bytes back. Assumes nothing.
-use Prim.Native.Nat.{ℕ, zero, suc, _+_, _*_, _-_, _^_, _≤_, _<_}
+use Prim.Native.Nat.{ℕ, zero, suc, _+_, _*_, _^_, _≤_, _<_}
 use native.Mathlib.Numerals.{add-one}
 use native.Mathlib.Omega.{arith}
-use borrow.Author.Tests.{eqb-true, le-leb}
+use borrow.Author.Tests.{eqb-true}
 use mathlib.Core.Path.{_≡_, refl, sym, ap, ap₂, _∙_}
-use mathlib.Core.Bool.{Bool, true, not, _&&_}
-use mathlib.Core.List.{List, [], _∷_, _++_, append-assoc, append-nil, flatMap}
-use lib.Dec.{eqb, leb}
+use mathlib.Core.Bool.{true}
+use mathlib.Core.List.{List, [], _∷_, _++_, append-assoc, flatMap}
+use lib.Dec.{eqb}
 use lib.ListN.{length, getD, take, drop, length-append, length-drop, take-append-drop, drop-of-length-le}
 use lib.Seq.{take-add, take-all, drop-cons, drop-drop, getD-at}
 use Rattle.lists.specs.Range.{upTo}
 use Rattle.lists.proofs.UpTo.{length-upTo, getD-padded, upTo-ext}
 use Rattle.table.specs.Limits.{most}
 use Rattle.table.specs.declared.Task.{Task}
-use Rattle.table.specs.declared.Subsystem.{Subsystem}
-use Rattle.table.specs.Meaning.{TaskM, accessAt, taskM}
+use Rattle.table.specs.Meaning.{accessAt, taskM}
 use Rattle.table.proofs.Parts.{access-of-slot}
-use Rattle.rules.specs.Rules.{countOut}
 use Rattle.stored.specs.Held.{HeldTask}
 use Rattle.stored.specs.Numbers.{numberSize, numberAt, AreBytes}
 use Rattle.stored.specs.Field.{version, headerLength, subsystemLength, countAt, taskLength}
-use Rattle.stored.specs.Judge.{headerInRange, subsystemInRange}
-use Rattle.stored.specs.Decode.{decodedSubsystem, decodedAccess, decodedTask}
+use Rattle.stored.specs.Judge.{headerInRange}
+use Rattle.stored.specs.Decode.{decodedAccess, decodedTask}
 use Rattle.stored.specs.File.{numberBytes, headerValue, subsystemValue, timesBytes, taskValue}
 use Rattle.stored.proofs.FileLaws.{flatMap-none, flatMap-one-more, flatMap-split, length-numberBytes, length-pair, length-times, length-accesses}
 use Rattle.stored.proofs.FieldLaws.{number-behind, bytes-of-number}
-use Rattle.stored.proofs.ReadSubsystems.{and-left, and-right}
+use Rattle.stored.proofs.ReadSubsystems.{and-left}
 
 ------------------------------------------------------------------------
 -- A header

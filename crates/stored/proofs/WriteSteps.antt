@@ -1,11 +1,11 @@
 -- The steps of the writers: a field that is put into the free end of a buffer stands behind the bytes put before.
 -- Assumes nothing.
-use Prim.Native.Nat.{ℕ, zero, suc, _+_, _*_, _-_, _/_, _%_, _≤_, _<_}
+use Prim.Native.Nat.{ℕ, _+_, _-_, _/_, _%_, _≤_, _<_}
 use native.Mathlib.Nat.{div-one}
 use native.Mathlib.Omega.{arith}
 use mathlib.Core.Path.{_≡_, refl, sym, ap, ap₂, _∙_}
 use mathlib.Core.List.{List, [], _∷_, _++_, append-assoc, append-nil, flatMap}
-use lib.ListN.{length, take, drop, set, length-append, length-drop, length-take, drop-of-length-le}
+use lib.ListN.{length, take, drop, set, length-append, length-drop, drop-of-length-le}
 use lib.Seq.{take-at, drop-at, drop-drop}
 use Rattle.lists.specs.Range.{upTo}
 use Rattle.stored.specs.Numbers.{bigEndian, numberSize}
@@ -124,12 +124,6 @@ field-of-start tag v len e = rw (← e) (append-assoc (tag ∷ []) (bigEndian 2 
 pub length-start : (tag len : ℕ) → length ((tag ∷ []) ++ bigEndian 2 len) ≡ startSize
 unfolding bigEndian
 length-start tag len = refl
-
--- The writer of a value, lent what lies behind tag and length, completes the field.
-pub field-is-put : (before buf part v : List ℕ) (tag at len n : ℕ) → IsPut ((tag ∷ []) ++ bigEndian 2 len) before buf at → length v ≡ len → IsPut v (partFrom buf at) part n → IsPut (field tag v) before (take at buf ++ (part ++ drop (length buf - at) (drop at buf))) (at + n)
-field-is-put before buf part v tag at len n start e value =
-    put-the-same _ (field tag v) before _ (at + n) (field-of-start tag v len e)
-    (put-behind before ((tag ∷ []) ++ bigEndian 2 len) buf at start v part n value)
 
 ------------------------------------------------------------------------
 -- A list that is put element by element

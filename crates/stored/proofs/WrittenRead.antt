@@ -1,37 +1,31 @@
 -- A file that was written is read without a refusal, as a table that means the same. Assumes nothing.
-use Prim.Native.Nat.{ℕ, zero, suc, _+_, _*_, _^_, _≤_, _<_}
+use Prim.Native.Nat.{ℕ, zero, suc, _+_, _*_, _≤_, _<_}
 use native.Mathlib.Nat.{le-of-eq, le-refl}
 use native.Mathlib.Numerals.{add-one}
 use native.Mathlib.Omega.{arith}
-use borrow.Author.Tests.{le-leb, le-ltb, lt-leb}
-use mathlib.Core.Path.{_≡_, refl, sym, ap, ap₂, _∙_}
-use mathlib.Core.Bool.{Bool, true, false, not, _&&_, _||_}
-use mathlib.Core.Option.{Option, none, some}
-use mathlib.Core.List.{List, [], _∷_, _++_, flatMap}
-use lib.Dec.{ltb, leb}
+use borrow.Author.Tests.{le-leb, le-ltb}
+use mathlib.Core.Path.{_≡_, refl, ap, _∙_}
+use mathlib.Core.Bool.{true, not}
+use mathlib.Core.Option.{none, some}
+use mathlib.Core.List.{List, _++_, flatMap}
 use lib.ListN.{length, getD, drop, length-append}
-use Rattle.lists.specs.Range.{orElse, firstOf, upTo, padded}
+use Rattle.lists.specs.Range.{firstOf, upTo}
 use Rattle.lists.proofs.First.{firstOf-nowhere}
-use Rattle.lists.proofs.UpTo.{getD-padded, upTo-ext}
+use Rattle.lists.proofs.UpTo.{upTo-ext}
 use Rattle.table.specs.Limits.{most}
-use Rattle.table.specs.Zeros.{zeroTask, zeroSubsystem}
-use Rattle.table.specs.declared.Task.{Task}
 use Rattle.table.specs.declared.Subsystem.{Subsystem}
 use Rattle.table.specs.declared.Table.{Table}
-use Rattle.table.specs.Meaning.{TaskM, SubsystemM, System, pastTasks, pastSubsystems, taskM, taskAt, subsystemM, subsystemAt, meaning, MeanTheSame}
+use Rattle.table.specs.Meaning.{pastTasks, pastSubsystems, taskM, taskAt, subsystemM, subsystemAt, meaning}
 use Rattle.table.proofs.Parts.{task-of-slot, subsystem-of-slot}
 use Rattle.rules.specs.Rules.{countOut}
 use Rattle.rules.specs.Slots.{CountedTable}
-use Rattle.stored.specs.declared.FieldAnswer.{FieldAnswer}
 use Rattle.stored.specs.declared.FieldAnswer.the-variants.{Sound}
-use Rattle.stored.specs.declared.ReadAnswer.the-variants.{Whole}
-use Rattle.stored.specs.Numbers.{numberSize, numberAt}
-use Rattle.stored.specs.Field.{fieldSize, field, valueOf, version, headerTag, headerLength, subsystemTag, subsystemLength, countAt, taskTag, taskLength}
+use Rattle.stored.specs.Field.{fieldSize, field, headerTag, headerLength, subsystemTag, subsystemLength, taskTag, taskLength}
 use Rattle.stored.specs.Judge.{headerInRange, subsystemInRange, anyValue, judgeHeader, judgeSubsystem, judgeTask}
 use Rattle.stored.specs.Decode.{decodedHeader, decodedSubsystem, decodedTask}
 use Rattle.stored.specs.File.{headerValue, subsystemValue, taskValue, taskField, subsystemBytes, fileOf}
-use Rattle.stored.specs.Read.{Refusal, refusedAt, wholeUnless, zerosIf, headerIn, headAt, taskPlace, placeBehind, subsystemPlace, taskRefusal, tasksRefusal, refusalFrom, subsystemRefusal, leftOver, bodyRefusal, refusalIn, taskRead, subsystemTo, subsystemFrom, subsystemRead, tableTo, tableIn, readingOf, readOf}
-use Rattle.stored.specs.Held.{HeldTask, HeldSubsystem, Held}
+use Rattle.stored.specs.Read.{refusedAt, headerIn, headAt, taskPlace, placeBehind, subsystemPlace, taskRefusal, tasksRefusal, refusalFrom, subsystemRefusal, leftOver, bodyRefusal, refusalIn, taskRead, subsystemTo, subsystemFrom, tableTo, tableIn}
+use Rattle.stored.specs.Held.{HeldSubsystem, Held}
 use Rattle.stored.proofs.FileLaws.{flatMap-one-more, flatMap-none, file-bytes, length-file-parts, length-header, length-headerValue, subsystem-bytes, length-subsystem-field, length-subsystemValue, length-subsystemBytes, length-first-tasks, length-task-value}
 use Rattle.stored.proofs.ValueLaws.{period-of-value, budget-of-value, count-of-value, task-decoded}
 use Rattle.stored.proofs.ReadMeaning.{task-of-reading, subsystem-of-reading}

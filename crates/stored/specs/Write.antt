@@ -1,7 +1,7 @@
 -- What a write answers and what it leaves in the buffer, for every system and every buffer. Assumes nothing.
 use Prim.Native.Nat.{ℕ}
 use mathlib.Core.Path.{_≡_}
-use mathlib.Core.Bool.{Bool, cond}
+use mathlib.Core.Bool.{cond}
 use mathlib.Core.List.{List, _++_}
 use lib.Dec.{ltb}
 use lib.ListN.{length, drop}
@@ -9,7 +9,6 @@ use Rattle.table.specs.Meaning.{System}
 use Rattle.rules.specs.declared.Rule.the-variants.{Counts}
 use Rattle.rules.specs.declared.Judged.{Judged}
 use Rattle.rules.specs.declared.Judged.the-variants.{Admitted, Refused}
-use Rattle.rules.specs.declared.Place.{Place}
 use Rattle.rules.specs.Refusal.{numberOf, Refusal}
 use Rattle.rules.specs.Rules.{tableBreaks, judgedBy, place}
 use Rattle.stored.specs.declared.WriteAnswer.{WriteAnswer}

@@ -1,11 +1,10 @@
 // The judge of a field: is the field that is due at the start of the rest of a file? And the field walk, which hands
 // the value on as a part of the caller's bytes. Assumes nothing.
 ghost use mathlib.Core.Path.{_≡_};
-ghost use mathlib.Core.Bool.{true};
 ghost use Prim.Native.Nat.{_+_, _≤_, _<_};
 ghost use lib.ListN.{length};
-ghost use Rattle.stored.specs.Field.{startSize, fieldSize, statedLength, valueOf, headerLength, subsystemLength};
-ghost use Rattle.stored.specs.Judge.{judgeField, anyValue, judgeHeader, judgeSubsystem, headerInRange, subsystemInRange};
+ghost use Rattle.stored.specs.Field.{startSize, fieldSize, statedLength, valueOf, headerLength};
+ghost use Rattle.stored.specs.Judge.{judgeField, anyValue, judgeHeader, judgeSubsystem, headerInRange};
 use crate::Fault;
 use crate::FieldAnswer;
 use numbers::index;

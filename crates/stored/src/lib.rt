@@ -9,12 +9,14 @@ use table::Subsystem;
 use table::Table;
 
 mod decode;
+mod held;
 mod judge;
 pub mod number;
 mod put;
 mod read;
 mod write;
 
+pub use held::table_is_held;
 pub use read::read_table;
 pub use write::file_length;
 pub use write::write_table;

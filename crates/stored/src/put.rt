@@ -1,6 +1,5 @@
 // The writers of the fields. Each is lent the free bytes from the next free one on, puts its bytes at their start, leaves
 // the rest as it was, and says how many it put. Assumes nothing.
-ghost use mathlib.Core.Path.{_≡_};
 ghost use mathlib.Core.List.{[], _∷_, flatMap, _++_};
 ghost use Prim.Native.Nat.{_+_, _*_, _≤_, _<_};
 ghost use lib.ListN.{length};

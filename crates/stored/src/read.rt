@@ -2,7 +2,7 @@
 // the file from the current offset on goes to the judge, and a refusal leaves early. Assumes nothing.
 ghost use mathlib.Core.Path.{_≡_};
 ghost use Prim.Native.Nat.{_≤_};
-ghost use lib.ListN.{length, drop};
+ghost use lib.ListN.{length};
 ghost use Rattle.table.specs.Limits.{most};
 ghost use Rattle.stored.specs.Read.{refusedAt, wholeUnless, headerIn, headAt, taskPlace, subsystemPlace, tasksRefusal, refusalFrom, bodyRefusal, tableIn, IsReading, readingOf, readOf};
 use crate::Fault;

@@ -1,3 +1,5 @@
+-- `stored::decode::decode_task` meets its contract: the loop's invariant: the task with its first l accesses. Assumes
+-- nothing.
 use borrow.Author.Needs.{needs}
 use Rattle.stored.proofs.Decoding.{one-access-more}
 use mathlib.Core.Path.{_≡_, ap, _∙_}
@@ -6,10 +8,6 @@ use Rattle.stored.specs.Decode.{decodedTask, decodedAccess}
 use native.Mathlib.Omega.{arith}
 use Rattle.stored.proofs.decode.decode_task.Statement.{statement}
 use Rattle.stored.proofs.decode.decode_task.Tie as tie
-use Rattle.stored.proofs.decode.decode_task.Reads as reads
-use Rattle.stored.proofs.decode.decode_task.Lts as lts
-use Rattle.stored.proofs.decode.decode_times.Reads as decode-times-reads
-use Rattle.stored.proofs.number.number_at.Reads as number-at-reads
 
 abbrev Inv-loop : tie.InvT-loop
 Inv-loop value m task₀ l₀ task l = (l ≤ m) × (task ≡ decodedTask l value)
@@ -17,43 +15,33 @@ Inv-loop value m task₀ l₀ task l = (l ≤ m) × (task ≡ decodedTask l valu
 abbrev μ-loop : tie.MeasureT-loop
 μ-loop value m task₀ l₀ task l = m - l
 
--- src/decode.rt:61:20
 decode-times-requires : tie.Need-decode-times-requires Inv-loop μ-loop
 decode-times-requires c κs = search needs
 
--- src/decode.rt:63:5
 loop-holds : tie.Need-loop-holds Inv-loop μ-loop
 loop-holds c = search needs
 
--- src/decode.rt:64:56
 mul-number-at : tie.Need-mul-number-at Inv-loop μ-loop
 mul-number-at c = search needs
 
--- src/decode.rt:64:43
 add-number-at : tie.Need-add-number-at Inv-loop μ-loop
 add-number-at c = search needs
 
--- src/decode.rt:64:26
 number-at-requires : tie.Need-number-at-requires Inv-loop μ-loop
 number-at-requires c κs = search needs
 
--- src/decode.rt:64:9
 mul-task : tie.Need-mul-task Inv-loop μ-loop
 mul-task c = search needs
 
--- src/decode.rt:64:9
 element-write-task : tie.Need-element-write-task Inv-loop μ-loop
 element-write-task c = search needs
 
--- src/decode.rt:65:9
 add-l : tie.Need-add-l Inv-loop μ-loop
 add-l c = search needs
 
--- src/decode.rt:63:5
 loop-less : tie.Need-loop-less Inv-loop μ-loop
 loop-less c = search needs
 
--- src/decode.rt:63:5
 loop-again : tie.Need-loop-again Inv-loop μ-loop
 unfolding decodedAccess
 loop-again c =
@@ -65,7 +53,6 @@ loop-again c =
           (omega arith),
     )
 
--- src/decode.rt:57:1
 returns : tie.Need-returns Inv-loop μ-loop
 returns c =
     let done : c .before .loop .l ≡ c .before .before .before .before .args .m = omega arith in

@@ -1,4 +1,5 @@
-use native.Mathlib.Omega.{arith}
+-- `stored::judge::header_in_range` meets its contract: each test that fails settles the range, and the last decides it.
+-- Assumes nothing.
 use borrow.Author.Needs.{needs}
 use lib.ListN.{getD}
 use mathlib.Core.Path.{refl}
@@ -6,29 +7,20 @@ use borrow.Author.Tests.{ne-eqb, eq-eqb}
 use Rattle.stored.specs.Judge.{headerInRange}
 use Rattle.stored.proofs.judge.header_in_range.Statement.{statement}
 use Rattle.stored.proofs.judge.header_in_range.Tie as tie
-use Rattle.stored.proofs.judge.header_in_range.Reads as reads
-use Rattle.stored.proofs.judge.header_in_range.Lts as lts
-use Rattle.numbers.proofs.index.Reads as index-reads
-use Rattle.rules.proofs.breaks.count_out.Reads as count-out-reads
 
--- src/judge.rt:73:8
 shared-slice-read-if1 : tie.Need-shared-slice-read-if1
 shared-slice-read-if1 c = search needs
 
--- src/judge.rt:74:9
 returns : tie.Need-returns
 unfolding headerInRange
 returns c = rw (ne-eqb (getD (c .before .before .before .args .value .now) 0 0) 1 (c .if1 .taken)) refl
 
--- src/judge.rt:76:18
 shared-slice-read-count-out : tie.Need-shared-slice-read-count-out
 shared-slice-read-count-out c = search needs
 
--- src/judge.rt:76:8
 count-out-requires : tie.Need-count-out-requires
 count-out-requires c κs = search needs
 
--- src/judge.rt:77:9
 returns-2 : tie.Need-returns-2
 unfolding headerInRange
 returns-2 c =
@@ -39,15 +31,12 @@ returns-2 c =
     )
     refl
 
--- src/judge.rt:79:11
 shared-slice-read-index : tie.Need-shared-slice-read-index
 shared-slice-read-index c = search needs
 
--- src/judge.rt:79:5
 index-requires : tie.Need-index-requires
 index-requires c κs = search needs
 
--- src/judge.rt:69:1
 returns-3 : tie.Need-returns-3
 unfolding headerInRange
 returns-3 c =

@@ -1,3 +1,5 @@
+-- `stored::judge::judge` meets its contract: at each return the tests that led there say which case of the judgement
+-- holds. Assumes nothing.
 use native.Mathlib.Omega.{arith}
 use borrow.Author.Needs.{needs}
 use Rattle.stored.proofs.Judging.{judges-no-start, judges-other-tag, judges-other-length, judges-short-value, judges-by-range}
@@ -7,28 +9,20 @@ use Rattle.stored.specs.Field.{tagOf}
 use Rattle.stored.specs.declared.FieldAnswer.the-variants.{Sound}
 use Rattle.stored.proofs.judge.judge.Statement.{statement}
 use Rattle.stored.proofs.judge.judge.Tie as tie
-use Rattle.stored.proofs.judge.judge.Reads as reads
-use Rattle.stored.proofs.judge.judge.Lts as lts
-use Rattle.stored.proofs.judge.stated_length.Reads as stated-length-reads
 
--- src/judge.rt:45:9
 returns : tie.Need-returns
 returns c = sym (judges-no-start (c .before .before .args .tag) (c .before .before .args .due) anyValue (c .before .before .args .rest .now) (c .if1 .taken))
 
--- src/judge.rt:47:17
 shared-slice-read-found : tie.Need-shared-slice-read-found
 shared-slice-read-found c = search needs
 
--- src/judge.rt:48:9
 stated-length-requires : tie.Need-stated-length-requires
 stated-length-requires c κs = search needs
 
--- src/judge.rt:50:9
 returns-2 : tie.Need-returns-2
 unfolding tagOf
 returns-2 c = sym (judges-other-tag (c .before .before .before .before .before .args .tag) (c .before .before .before .before .before .args .due) anyValue (c .before .before .before .before .before .args .rest .now) (c .before .before .before .if1 .left) (c .if2 .taken))
 
--- src/judge.rt:53:9
 returns-3 : tie.Need-returns-3
 unfolding tagOf
 returns-3 c =
@@ -36,16 +30,13 @@ returns-3 c =
     (judges-other-length (c .before .before .before .before .before .before .args .tag) (c .before .before .before .before .before .before .args .due) anyValue (c .before .before .before .before .before .before .args .rest .now) (c .before .before .before .before .if1 .left) (c .before .if2 .left)
     (λ e. c .if3 .taken (c .before .before .stated-length .ensures .0 ∙ e)))
 
--- src/judge.rt:55:21
 add-if4 : tie.Need-add-if4
 add-if4 c = search needs
 
--- src/judge.rt:56:9
 returns-4 : tie.Need-returns-4
 unfolding tagOf
 returns-4 c = sym (judges-short-value (c .before .before .before .before .before .before .before .args .tag) (c .before .before .before .before .before .before .before .args .due) anyValue (c .before .before .before .before .before .before .before .args .rest .now) (c .before .before .before .before .before .if1 .left) (c .before .before .if2 .left) (cc) (omega arith))
 
--- src/judge.rt:41:1
 returns-5 : tie.Need-returns-5
 unfolding tagOf anyValue
 returns-5 c =

@@ -1,3 +1,5 @@
+-- `stored::judge::judge_subsystem` meets its contract: range is judged last, on the value of a field that is sound but
+-- for it. Assumes nothing.
 use native.Mathlib.Omega.{arith}
 use borrow.Author.Needs.{needs}
 use mathlib.Core.Bool.{not}
@@ -6,68 +8,53 @@ use Rattle.stored.specs.Judge.{subsystemInRange, anyValue}
 use Rattle.stored.proofs.Judging.{faulty-before-range, sound-in-range, sound-out-of-range, sound-whole, sound-value, sound-value-length}
 use Rattle.stored.proofs.judge.judge_subsystem.Statement.{statement}
 use Rattle.stored.proofs.judge.judge_subsystem.Tie as tie
-use Rattle.stored.proofs.judge.judge_subsystem.Reads as reads
-use Rattle.stored.proofs.judge.judge_subsystem.Lts as lts
-use Rattle.rules.proofs.breaks.count_out.Reads as count-out-reads
-use Rattle.stored.proofs.judge.judge.Reads as judge-reads
-use Rattle.stored.proofs.judge.value.Reads as value-reads
 
--- src/judge.rt:100:9
 judge-requires : tie.Need-judge-requires
 judge-requires c κs = search needs
 
--- src/judge.rt:101:28
 enum-known-answer : tie.Need-enum-known-answer
 enum-known-answer c = search needs
 
--- src/judge.rt:102:9
 enum-told : tie.Need-enum-told
 enum-told c = search needs
 
--- src/judge.rt:102:9
 returns : tie.Need-returns
 returns c =
-    faulty-before-range 2 9 subsystemInRange (c .before .before .before .before .args .rest .now) _ (c .enum-told .given .0 .0) (c .before .before .judge .ensures)
-    (c .enum-told .given .1)
+    let told = c .enum-told .given in
+    faulty-before-range 2 9 subsystemInRange (c .before .before .before .before .args .rest .now) _ (told .0 .0) (c .before .before .judge .ensures) (told .1)
 
--- src/judge.rt:104:9
 value-requires : tie.Need-value-requires
 value-requires c κs =
     sound-whole 2 9 anyValue (c .before .before .before .before .before .args .rest .now) _ _ (c .before .before .before .judge .ensures) (c .before .answer .given .1)
 
--- src/judge.rt:105:18
 shared-slice-read-count-out : tie.Need-shared-slice-read-count-out
 shared-slice-read-count-out c =
-    omega (
-      arith,
-      sound-value-length 2 9 anyValue (c .before .before .before .before .before .before .before .args .rest .now) _ _ (c .before .before .before .before .before .judge .ensures) (c .before .before .before .answer .given .1) (c .before .value .result .now)
-          (c .before .value .ensures),
-    )
+    let v = c .before .value in
+    omega (arith, sound-value-length 2 9 anyValue (c .before .before .before .before .before .before .before .args .rest .now) _ _ (c .before .before .before .before .before .judge .ensures) (c .before .before .before .answer .given .1) (v .result .now) (v .ensures))
 
--- src/judge.rt:105:8
 count-out-requires : tie.Need-count-out-requires
 count-out-requires c κs = search needs
 
--- src/judge.rt:106:9
 returns-2 : tie.Need-returns-2
 unfolding subsystemInRange
 returns-2 c =
-    let k = c .before .before .before .before .before in
-    let j = k .before .before in
-    let r = j .before .before .args .rest .now in
-    let e = sound-value 2 9 anyValue r _ _ (j .judge .ensures) (k .answer .given .1) (c .before .before .before .value .result .now) (c .before .before .before .value .ensures) in
-    sound-out-of-range 2 9 subsystemInRange r _ (k .answer .given .0 .0) (j .judge .ensures) (k .answer .given .1)
+    let j = c .before .before .before .before .before .before .before .judge in
+    let told = c .before .before .before .before .before .answer .given in
+    let v = c .before .before .before .value in
+    let rest = c .before .before .before .before .before .before .before .before .before .args .rest .now in
+    let e = sound-value 2 9 anyValue rest _ _ (j .ensures) (told .1) (v .result .now) (v .ensures) in
+    sound-out-of-range 2 9 subsystemInRange rest _ (told .0 .0) (j .ensures) (told .1)
     (sym (ap subsystemInRange e) ∙ ap not (sym (c .before .count-out .ensures) ∙ c .if1 .taken))
 
--- src/judge.rt:97:1
 returns-3 : tie.Need-returns-3
 unfolding subsystemInRange
 returns-3 c =
-    let k = c .before .before .before .before .before in
-    let j = k .before .before in
-    let r = j .before .before .args .rest .now in
-    let e = sound-value 2 9 anyValue r _ _ (j .judge .ensures) (k .answer .given .1) (c .before .before .before .value .result .now) (c .before .before .before .value .ensures) in
-    sound-in-range 2 9 subsystemInRange r _ (k .answer .given .0 .0) (j .judge .ensures) (k .answer .given .1)
+    let j = c .before .before .before .before .before .before .before .judge in
+    let told = c .before .before .before .before .before .answer .given in
+    let v = c .before .before .before .value in
+    let rest = c .before .before .before .before .before .before .before .before .before .args .rest .now in
+    let e = sound-value 2 9 anyValue rest _ _ (j .ensures) (told .1) (v .result .now) (v .ensures) in
+    sound-in-range 2 9 subsystemInRange rest _ (told .0 .0) (j .ensures) (told .1)
     (sym (ap subsystemInRange e) ∙ ap not (sym (c .before .count-out .ensures) ∙ c .if1 .left))
 
 pub judge-subsystem-spec : {M : Type 1} → statement M

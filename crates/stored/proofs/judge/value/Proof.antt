@@ -1,30 +1,24 @@
-use native.Mathlib.Omega.{arith}
+-- `stored::judge::value` meets its contract: the part from the start's end on, as long as the value, is the value.
+-- Assumes nothing.
 use borrow.Author.Needs.{needs}
 use native.Mathlib.Nat.{add-sub-cancel-left}
 use mathlib.Core.Path.{refl}
 use Rattle.stored.specs.Field.{valueOf}
 use Rattle.stored.proofs.judge.value.Statement.{statement}
 use Rattle.stored.proofs.judge.value.Tie as tie
-use Rattle.stored.proofs.judge.value.Reads as reads
-use Rattle.stored.proofs.judge.value.Lts as lts
 
--- src/judge.rt:57:18
 add-result : tie.Need-add-result
 add-result c = search needs
 
--- src/judge.rt:57:5
 sub-result : tie.Need-sub-result
 sub-result c = search needs
 
--- src/judge.rt:57:5
 part-result-start : tie.Need-part-result-start
 part-result-start c = search needs
 
--- src/judge.rt:57:5
 part-result-end : tie.Need-part-result-end
 part-result-end c = search needs
 
--- src/judge.rt:53:1
 returns : tie.Need-returns
 unfolding valueOf
 returns c = rw (add-sub-cancel-left 3 (c .before .args .len)) refl

@@ -1,85 +1,65 @@
-use native.Mathlib.Omega.{arith}
+-- `stored::number::number_at` meets its contract: four bytes, each weighed by its place, make the number that they
+-- spell. Assumes nothing.
 use borrow.Author.Needs.{needs}
-use Rattle.stored.proofs.Numbers.{number-of-four}
+use Rattle.stored.proofs.Numbers.{four-bytes-spell}
 use Rattle.stored.proofs.number.number_at.Statement.{statement}
 use Rattle.stored.proofs.number.number_at.Tie as tie
-use Rattle.stored.proofs.number.number_at.Reads as reads
-use Rattle.stored.proofs.number.number_at.Lts as lts
-use Rattle.stored.proofs.number.wide.Reads as wide-reads
 
--- src/number.rt:21:18
 shared-slice-read-wide : tie.Need-shared-slice-read-wide
 shared-slice-read-wide c = search needs
 
--- src/number.rt:21:9
 wide-requires : tie.Need-wide-requires
 wide-requires c κs = search needs
 
--- src/number.rt:22:24
 add-wide : tie.Need-add-wide
 add-wide c = search needs
 
--- src/number.rt:22:18
 shared-slice-read-wide-2 : tie.Need-shared-slice-read-wide-2
 shared-slice-read-wide-2 c = search needs
 
--- src/number.rt:22:9
 wide-requires-2 : tie.Need-wide-requires-2
 wide-requires-2 c κs = search needs
 
--- src/number.rt:23:24
 add-wide-2 : tie.Need-add-wide-2
 add-wide-2 c = search needs
 
--- src/number.rt:23:18
 shared-slice-read-wide-3 : tie.Need-shared-slice-read-wide-3
 shared-slice-read-wide-3 c = search needs
 
--- src/number.rt:23:9
 wide-requires-3 : tie.Need-wide-requires-3
 wide-requires-3 c κs = search needs
 
--- src/number.rt:24:24
 add-wide-3 : tie.Need-add-wide-3
 add-wide-3 c = search needs
 
--- src/number.rt:24:18
 shared-slice-read-wide-4 : tie.Need-shared-slice-read-wide-4
 shared-slice-read-wide-4 c = search needs
 
--- src/number.rt:24:9
 wide-requires-4 : tie.Need-wide-requires-4
 wide-requires-4 c κs = search needs
 
--- src/number.rt:25:5
 mul-result : tie.Need-mul-result
 mul-result c = search needs
 
--- src/number.rt:25:20
 mul-result-2 : tie.Need-mul-result-2
 mul-result-2 c = search needs
 
--- src/number.rt:25:5
 add-result : tie.Need-add-result
 add-result c = search needs
 
--- src/number.rt:25:32
 mul-result-3 : tie.Need-mul-result-3
 mul-result-3 c = search needs
 
--- src/number.rt:25:5
 add-result-2 : tie.Need-add-result-2
 add-result-2 c = search needs
 
--- src/number.rt:25:5
 add-result-3 : tie.Need-add-result-3
 add-result-3 c = search needs
 
--- src/number.rt:17:1
 returns : tie.Need-returns
 returns c =
-    let a = c .before .before .before .before .before .before .before .before .before .args in
-    omega (arith, number-of-four (a .value .now) (a .at) (c .before .before .before .before .before .before .before .before .before .pre))
+    let s = c .before .before .before .before .before .before .before .before .before in
+    four-bytes-spell (s .args .value .now) (s .args .at) _ _ _ _ (s .pre) (c .before .before .before .before .before .before .wide .ensures .0) (c .before .before .before .before .wide2 .ensures .0) (c .before .before .wide3 .ensures .0) (c .wide4 .ensures .0)
 
 pub number-at-spec : {M : Type 1} → statement M
 number-at-spec =

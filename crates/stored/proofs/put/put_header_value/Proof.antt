@@ -1,29 +1,23 @@
+-- `stored::put::put_header_value` meets its contract: three stores put version, N and M. Assumes nothing.
 use native.Mathlib.Omega.{arith}
 use borrow.Author.Needs.{needs}
 use Rattle.stored.proofs.WriteSteps.{header-value-is-put}
 use lib.ListN.{length-set}
 use Rattle.stored.proofs.put.put_header_value.Statement.{statement}
 use Rattle.stored.proofs.put.put_header_value.Tie as tie
-use Rattle.stored.proofs.put.put_header_value.Reads as reads
-use Rattle.stored.proofs.put.put_header_value.Lts as lts
 
--- src/put.rt:39:5
 slice-write-free : tie.Need-slice-write-free
 slice-write-free c = search needs
 
--- src/put.rt:40:5
 slice-write-free-2 : tie.Need-slice-write-free-2
 slice-write-free-2 c = simp length-set (omega arith)
 
--- src/put.rt:41:5
 slice-write-free-3 : tie.Need-slice-write-free-3
 slice-write-free-3 c = search needs
 
--- src/put.rt:35:1
 same-length : tie.Need-same-length
 same-length c = search needs
 
--- src/put.rt:35:1
 returns : tie.Need-returns
 returns c = header-value-is-put (c .args .free .now) (c .args .n) (c .args .m) (c .pre)
 

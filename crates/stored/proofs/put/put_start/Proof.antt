@@ -1,37 +1,29 @@
+-- `stored::put::put_start` meets its contract: three stores put tag and length. Assumes nothing.
 use native.Mathlib.Omega.{arith}
 use borrow.Author.Needs.{needs}
 use Rattle.stored.proofs.WriteSteps.{start-is-put}
 use lib.ListN.{length-set}
 use Rattle.stored.proofs.put.put_start.Statement.{statement}
 use Rattle.stored.proofs.put.put_start.Tie as tie
-use Rattle.stored.proofs.put.put_start.Reads as reads
-use Rattle.stored.proofs.put.put_start.Lts as lts
 
--- src/put.rt:29:5
 slice-write-free : tie.Need-slice-write-free
 slice-write-free c = search needs
 
--- src/put.rt:30:15
 cast-free : tie.Need-cast-free
 cast-free c = search needs
 
--- src/put.rt:30:5
 slice-write-free-2 : tie.Need-slice-write-free-2
 slice-write-free-2 c = simp length-set (omega arith)
 
--- src/put.rt:31:15
 cast-free-2 : tie.Need-cast-free-2
 cast-free-2 c = search needs
 
--- src/put.rt:31:5
 slice-write-free-3 : tie.Need-slice-write-free-3
 slice-write-free-3 c = search needs
 
--- src/put.rt:25:1
 same-length : tie.Need-same-length
 same-length c = search needs
 
--- src/put.rt:25:1
 returns : tie.Need-returns
 returns c = start-is-put (c .args .free .now) (c .args .tag) (c .args .len) (c .pre)
 

@@ -1,3 +1,4 @@
+-- `stored::put::put_subsystem` meets its contract: the tasks stand behind the subsystem's own field. Assumes nothing.
 use native.Mathlib.Omega.{arith}
 use borrow.Author.Needs.{needs}
 use lib.ListN.{length}
@@ -12,42 +13,47 @@ use Rattle.stored.proofs.FileLaws.{length-subsystem-field, length-subsy
 use Rattle.stored.proofs.WriteSteps.{free-starts-within, free-has-room, end-within, put-behind}
 use Rattle.stored.proofs.put.put_subsystem.Statement.{statement}
 use Rattle.stored.proofs.put.put_subsystem.Tie as tie
-use Rattle.stored.proofs.put.put_subsystem.Reads as reads
-use Rattle.stored.proofs.put.put_subsystem.Lts as lts
-use Rattle.stored.proofs.put.put_subsystem_field.Reads as put-subsystem-field-reads
-use Rattle.stored.proofs.put.put_tasks.Reads as put-tasks-reads
 
--- src/put.rt:162:9
 put-subsystem-field-requires : tie.Need-put-subsystem-field-requires
 put-subsystem-field-requires c κs = omega (arith, length-subsystem-parts (c .before .before .args .m) (c .before .before .args .sub), c .before .before .pre .1)
 
--- src/put.rt:163:21
 sub-put-tasks : tie.Need-sub-put-tasks
-sub-put-tasks c = free-starts-within (c .before .before .before .before .before .args .free .now) _ (c .before .before .put-subsystem-field .last .0) (c .before .before .put-subsystem-field .result) (c .before .before .put-subsystem-field .ensures) (fieldSize subsystemLength) (length (flatMap taskField (upTo (taskAt (c .before .before .before .before .before .args .m) (c .before .before .before .before .before .args .sub)) (c .before .before .before .before .before .args .sub .count)))) (length-subsystem-field (c .before .before .before .before .before .args .sub .period) (c .before .before .before .before .before .args .sub .budget) (c .before .before .before .before .before .args .sub .count)) (rw (← length-subsystem-parts (c .before .before .before .before .before .args .m) (c .before .before .before .before .before .args .sub)) (c .before .before .before .before .before .pre .1))
+sub-put-tasks c =
+    let s = c .before .before .before .before .before in
+    let p = c .before .before .put-subsystem-field in
+    free-starts-within (s .args .free .now) _ (p .last .0) (p .result) (p .ensures) (fieldSize subsystemLength) (length (flatMap taskField (upTo (taskAt (s .args .m) (s .args .sub)) (s .args .sub .count)))) (length-subsystem-field (s .args .sub .period) (s .args .sub .budget) (s .args .sub .count)) (rw (← length-subsystem-parts (s .args .m) (s .args .sub)) (s .pre .1))
 
--- src/put.rt:163:21
 part-put-tasks-start : tie.Need-part-put-tasks-start
-part-put-tasks-start c = free-starts-within (c .before .before .before .before .before .args .free .now) _ (c .before .before .put-subsystem-field .last .0) (c .before .before .put-subsystem-field .result) (c .before .before .put-subsystem-field .ensures) (fieldSize subsystemLength) (length (flatMap taskField (upTo (taskAt (c .before .before .before .before .before .args .m) (c .before .before .before .before .before .args .sub)) (c .before .before .before .before .before .args .sub .count)))) (length-subsystem-field (c .before .before .before .before .before .args .sub .period) (c .before .before .before .before .before .args .sub .budget) (c .before .before .before .before .before .args .sub .count)) (rw (← length-subsystem-parts (c .before .before .before .before .before .args .m) (c .before .before .before .before .before .args .sub)) (c .before .before .before .before .before .pre .1))
+part-put-tasks-start c =
+    let s = c .before .before .before .before .before in
+    let p = c .before .before .put-subsystem-field in
+    free-starts-within (s .args .free .now) _ (p .last .0) (p .result) (p .ensures) (fieldSize subsystemLength) (length (flatMap taskField (upTo (taskAt (s .args .m) (s .args .sub)) (s .args .sub .count)))) (length-subsystem-field (s .args .sub .period) (s .args .sub .budget) (s .args .sub .count)) (rw (← length-subsystem-parts (s .args .m) (s .args .sub)) (s .pre .1))
 
--- src/put.rt:163:21
 part-put-tasks-end : tie.Need-part-put-tasks-end
 part-put-tasks-end c = search needs
 
--- src/put.rt:163:11
 put-tasks-requires : tie.Need-put-tasks-requires
-put-tasks-requires c κs = (c .before .before .before .before .before .before .pre .0, free-has-room (c .before .before .before .before .before .before .args .free .now) _ (c .before .before .before .put-subsystem-field .last .0) (c .before .before .before .put-subsystem-field .result) (c .before .before .before .put-subsystem-field .ensures) (fieldSize subsystemLength) (length (flatMap taskField (upTo (taskAt (c .before .before .before .before .before .before .args .m) (c .before .before .before .before .before .before .args .sub)) (c .before .before .before .before .before .before .args .sub .count)))) (length-subsystem-field (c .before .before .before .before .before .before .args .sub .period) (c .before .before .before .before .before .before .args .sub .budget) (c .before .before .before .before .before .before .args .sub .count)) (rw (← length-subsystem-parts (c .before .before .before .before .before .before .args .m) (c .before .before .before .before .before .before .args .sub)) (c .before .before .before .before .before .before .pre .1)))
+put-tasks-requires c κs =
+    let s = c .before .before .before .before .before .before in
+    let p = c .before .before .before .put-subsystem-field in
+    (s .pre .0, free-has-room (s .args .free .now) _ (p .last .0) (p .result) (p .ensures) (fieldSize subsystemLength) (length (flatMap taskField (upTo (taskAt (s .args .m) (s .args .sub)) (s .args .sub .count)))) (length-subsystem-field (s .args .sub .period) (s .args .sub .budget) (s .args .sub .count)) (rw (← length-subsystem-parts (s .args .m) (s .args .sub)) (s .pre .1)))
 
--- src/put.rt:163:5
 add-at : tie.Need-add-at
-add-at c = omega (arith, end-within (c .before .before .before .before .before .before .before .before .before .args .free .now) _ (c .before .before .before .before .before .before .put-subsystem-field .last .0) (c .before .before .before .before .before .before .put-subsystem-field .result) (c .before .before .before .before .before .before .put-subsystem-field .ensures) (fieldSize subsystemLength) (length (flatMap taskField (upTo (taskAt (c .before .before .before .before .before .before .before .before .before .args .m) (c .before .before .before .before .before .before .before .before .before .args .sub)) (c .before .before .before .before .before .before .before .before .before .args .sub .count)))) (length-subsystem-field (c .before .before .before .before .before .before .before .before .before .args .sub .period) (c .before .before .before .before .before .before .before .before .before .args .sub .budget) (c .before .before .before .before .before .before .before .before .before .args .sub .count)) (rw (← length-subsystem-parts (c .before .before .before .before .before .before .before .before .before .args .m) (c .before .before .before .before .before .before .before .before .before .args .sub)) (c .before .before .before .before .before .before .before .before .before .pre .1)) _ (c .before .before .put-tasks .last .0) (c .before .before .put-tasks .result) (c .before .before .put-tasks .ensures) refl, c .before .before .before .before .before .before .before .before .before .good .0 .0)
+add-at c =
+    let s = c .before .before .before .before .before .before .before .before .before in
+    let p = c .before .before .before .before .before .before .put-subsystem-field in
+    let e = c .before .before .put-tasks in
+    omega (arith, end-within (s .args .free .now) _ (p .last .0) (p .result) (p .ensures) (fieldSize subsystemLength) (length (flatMap taskField (upTo (taskAt (s .args .m) (s .args .sub)) (s .args .sub .count)))) (length-subsystem-field (s .args .sub .period) (s .args .sub .budget) (s .args .sub .count)) (rw (← length-subsystem-parts (s .args .m) (s .args .sub)) (s .pre .1)) _ (e .last .0) (e .result) (e .ensures) refl, s .good .0 .0)
 
--- src/put.rt:157:1
 same-length : tie.Need-same-length
 same-length c = search needs
 
--- src/put.rt:157:1
 returns : tie.Need-returns
-returns c = put-the-same _ _ _ _ _ (subsystem-bytes (c .before .before .before .before .before .before .before .before .before .args .m) (c .before .before .before .before .before .before .before .before .before .args .sub)) (put-behind (c .before .before .before .before .before .before .before .before .before .args .free .now) _ (c .before .before .before .before .before .before .put-subsystem-field .last .0) (c .before .before .before .before .before .before .put-subsystem-field .result) (c .before .before .before .before .before .before .put-subsystem-field .ensures) _ (c .before .before .put-tasks .last .0) (c .before .before .put-tasks .result) (c .before .before .put-tasks .ensures))
+returns c =
+    let s = c .before .before .before .before .before .before .before .before .before in
+    let p = c .before .before .before .before .before .before .put-subsystem-field in
+    let e = c .before .before .put-tasks in
+    put-the-same _ _ _ _ _ (subsystem-bytes (s .args .m) (s .args .sub)) (put-behind (s .args .free .now) _ (p .last .0) (p .result) (p .ensures) _ (e .last .0) (e .result) (e .ensures))
 
 pub put-subsystem-spec : {M : Type 1} → statement M
 put-subsystem-spec =

@@ -1,64 +1,62 @@
+-- `stored::put::put_task` meets its contract: the value stands behind tag and length, and makes the field with them.
+-- Assumes nothing.
 use native.Mathlib.Omega.{arith}
 use borrow.Author.Needs.{needs}
 use Rattle.stored.proofs.FileLaws.{length-task-value}
 use Rattle.table.specs.Meaning.{taskM}
 use Rattle.stored.specs.File.{taskValue, taskField}
 use Rattle.stored.specs.Field.{startSize, taskLength}
-use Rattle.stored.proofs.WriteSteps.{free-starts-within, free-has-room, end-within, length-start, field-is-put}
+use Rattle.stored.proofs.WriteSteps.{free-starts-within, free-has-room, end-within, put-behind, put-the-same, length-start, field-of-start}
 use Rattle.stored.proofs.put.put_task.Statement.{statement}
 use Rattle.stored.proofs.put.put_task.Tie as tie
-use Rattle.stored.proofs.put.put_task.Reads as reads
-use Rattle.stored.proofs.put.put_task.Lts as lts
-use Rattle.stored.proofs.put.put_start.Reads as put-start-reads
-use Rattle.stored.proofs.put.put_task_value.Reads as put-task-value-reads
 
--- src/put.rt:86:53
 mul-put-start : tie.Need-mul-put-start
 mul-put-start c = search needs
 
--- src/put.rt:86:40
 add-put-start : tie.Need-add-put-start
 add-put-start c = search needs
 
--- src/put.rt:86:9
 put-start-requires : tie.Need-put-start-requires
 put-start-requires c κs = search needs
 
--- src/put.rt:87:26
 sub-put-task-value : tie.Need-sub-put-task-value
-sub-put-task-value c = free-starts-within (c .before .before .before .before .before .args .free .now) _ (c .before .before .put-start .last .0) (c .before .before .put-start .result) (c .before .before .put-start .ensures) startSize (taskLength (c .before .before .before .before .before .args .m)) (length-start 3 (taskLength (c .before .before .before .before .before .args .m))) (c .before .before .before .before .before .pre .1)
+sub-put-task-value c =
+    let s = c .before .before .before .before .before in
+    let p = c .before .before .put-start in
+    free-starts-within (s .args .free .now) _ (p .last .0) (p .result) (p .ensures) startSize (taskLength (s .args .m)) (length-start 3 (taskLength (s .args .m))) (s .pre .1)
 
--- src/put.rt:87:26
 part-put-task-value-start : tie.Need-part-put-task-value-start
-part-put-task-value-start c = free-starts-within (c .before .before .before .before .before .args .free .now) _ (c .before .before .put-start .last .0) (c .before .before .put-start .result) (c .before .before .put-start .ensures) startSize (taskLength (c .before .before .before .before .before .args .m)) (length-start 3 (taskLength (c .before .before .before .before .before .args .m))) (c .before .before .before .before .before .pre .1)
+part-put-task-value-start c =
+    let s = c .before .before .before .before .before in
+    let p = c .before .before .put-start in
+    free-starts-within (s .args .free .now) _ (p .last .0) (p .result) (p .ensures) startSize (taskLength (s .args .m)) (length-start 3 (taskLength (s .args .m))) (s .pre .1)
 
--- src/put.rt:87:26
 part-put-task-value-end : tie.Need-part-put-task-value-end
 part-put-task-value-end c = search needs
 
--- src/put.rt:87:11
 put-task-value-requires : tie.Need-put-task-value-requires
-put-task-value-requires c κs = (c .before .before .before .before .before .before .pre .0, free-has-room (c .before .before .before .before .before .before .args .free .now) _ (c .before .before .before .put-start .last .0) (c .before .before .before .put-start .result) (c .before .before .before .put-start .ensures) startSize (taskLength (c .before .before .before .before .before .before .args .m)) (length-start 3 (taskLength (c .before .before .before .before .before .before .args .m))) (c .before .before .before .before .before .before .pre .1))
+put-task-value-requires c κs =
+    let s = c .before .before .before .before .before .before in
+    let p = c .before .before .before .put-start in
+    (s .pre .0, free-has-room (s .args .free .now) _ (p .last .0) (p .result) (p .ensures) startSize (taskLength (s .args .m)) (length-start 3 (taskLength (s .args .m))) (s .pre .1))
 
--- src/put.rt:87:5
 add-at : tie.Need-add-at
 add-at c =
-    omega (
-      arith,
-      end-within (c .before .before .before .before .before .before .before .before .before .args .free .now) _ (c .before .before .before .before .before .before .put-start .last .0) (c .before .before .before .before .before .before .put-start .result) (c .before .before .before .before .before .before .put-start .ensures) startSize (taskLength (c .before .before .before .before .before .before .before .before .before .args .m)) (length-start 3 (taskLength (c .before .before .before .before .before .before .before .before .before .args .m))) (c .before .before .before .before .before .before .before .before .before .pre .1) _ (c .before .before .put-task-value .last .0) (c .before .before .put-task-value .result) (c .before .before .put-task-value .ensures) (length-task-value (c .before .before .before .before .before .before .before .before .before .args .m) (c .before .before .before .before .before .before .before .before .before .args .task)),
-      c .before .before .before .before .before .before .before .before .before .good .0 .0,
-    )
+    let s = c .before .before .before .before .before .before .before .before .before in
+    let p = c .before .before .before .before .before .before .put-start in
+    let e = c .before .before .put-task-value in
+    omega (arith, end-within (s .args .free .now) _ (p .last .0) (p .result) (p .ensures) startSize (taskLength (s .args .m)) (length-start 3 (taskLength (s .args .m))) (s .pre .1) _ (e .last .0) (e .result) (e .ensures) (length-task-value (s .args .m) (s .args .task)), s .good .0 .0)
 
--- src/put.rt:82:1
 same-length : tie.Need-same-length
 same-length c = search needs
 
--- src/put.rt:82:1
 returns : tie.Need-returns
 unfolding taskField
 returns c =
-    field-is-put (c .before .before .before .before .before .before .before .before .before .args .free .now) (c .before .before .before .before .before .before .put-start .last .0) (c .before .before .put-task-value .last .0) (taskValue (taskM (c .before .before .before .before .before .before .before .before .before .args .m) (c .before .before .before .before .before .before .before .before .before .args .task))) 3 (c .before .before .before .before .before .before .put-start .result) (taskLength (c .before .before .before .before .before .before .before .before .before .args .m)) (c .before .before .put-task-value .result) (c .before .before .before .before .before .before .put-start .ensures) (length-task-value (c .before .before .before .before .before .before .before .before .before .args .m) (c .before .before .before .before .before .before .before .before .before .args .task))
-    (c .before .before .put-task-value .ensures)
+    let s = c .before .before .before .before .before .before .before .before .before in
+    let p = c .before .before .before .before .before .before .put-start in
+    let e = c .before .before .put-task-value in
+    put-the-same _ _ _ _ _ (field-of-start 3 (taskValue (taskM (s .args .m) (s .args .task))) (taskLength (s .args .m)) (length-task-value (s .args .m) (s .args .task))) (put-behind (s .args .free .now) _ (p .last .0) (p .result) (p .ensures) _ (e .last .0) (e .result) (e .ensures))
 
 pub put-task-spec : {M : Type 1} → statement M
 put-task-spec =

@@ -1,3 +1,4 @@
+-- `stored::put::put_task_value` meets its contract: the accesses stand behind the times. Assumes nothing.
 use native.Mathlib.Omega.{arith}
 use borrow.Author.Needs.{needs}
 use Prim.Native.Nat.{_*_}
@@ -9,43 +10,48 @@ use Rattle.stored.proofs.FileLaws.{length-times, length-access-bytes}
 use Rattle.stored.proofs.WriteSteps.{free-starts-within, free-has-room, end-within, put-behind}
 use Rattle.stored.proofs.put.put_task_value.Statement.{statement}
 use Rattle.stored.proofs.put.put_task_value.Tie as tie
-use Rattle.stored.proofs.put.put_task_value.Reads as reads
-use Rattle.stored.proofs.put.put_task_value.Lts as lts
-use Rattle.stored.proofs.put.put_accesses.Reads as put-accesses-reads
-use Rattle.stored.proofs.put.put_times.Reads as put-times-reads
 
--- src/put.rt:96:9
 put-times-requires : tie.Need-put-times-requires
 put-times-requires c κs = search needs
 
--- src/put.rt:97:24
 sub-put-accesses : tie.Need-sub-put-accesses
-sub-put-accesses c = free-starts-within (c .before .before .before .before .before .args .free .now) _ (c .before .before .put-times .last .0) (c .before .before .put-times .result) (c .before .before .put-times .ensures) (taskLength 0) (numberSize * c .before .before .before .before .before .args .m) (length-times (c .before .before .before .before .before .args .task .separation) (c .before .before .before .before .before .args .task .work) (c .before .before .before .before .before .args .task .deadline)) (c .before .before .before .before .before .pre .1)
+sub-put-accesses c =
+    let s = c .before .before .before .before .before in
+    let p = c .before .before .put-times in
+    free-starts-within (s .args .free .now) _ (p .last .0) (p .result) (p .ensures) (taskLength 0) (numberSize * s .args .m) (length-times (s .args .task .separation) (s .args .task .work) (s .args .task .deadline)) (s .pre .1)
 
--- src/put.rt:97:24
 part-put-accesses-start : tie.Need-part-put-accesses-start
-part-put-accesses-start c = free-starts-within (c .before .before .before .before .before .args .free .now) _ (c .before .before .put-times .last .0) (c .before .before .put-times .result) (c .before .before .put-times .ensures) (taskLength 0) (numberSize * c .before .before .before .before .before .args .m) (length-times (c .before .before .before .before .before .args .task .separation) (c .before .before .before .before .before .args .task .work) (c .before .before .before .before .before .args .task .deadline)) (c .before .before .before .before .before .pre .1)
+part-put-accesses-start c =
+    let s = c .before .before .before .before .before in
+    let p = c .before .before .put-times in
+    free-starts-within (s .args .free .now) _ (p .last .0) (p .result) (p .ensures) (taskLength 0) (numberSize * s .args .m) (length-times (s .args .task .separation) (s .args .task .work) (s .args .task .deadline)) (s .pre .1)
 
--- src/put.rt:97:24
 part-put-accesses-end : tie.Need-part-put-accesses-end
 part-put-accesses-end c = search needs
 
--- src/put.rt:97:11
 put-accesses-requires : tie.Need-put-accesses-requires
-put-accesses-requires c κs = (c .before .before .before .before .before .before .pre .0, rw length-access-bytes (free-has-room (c .before .before .before .before .before .before .args .free .now) _ (c .before .before .before .put-times .last .0) (c .before .before .before .put-times .result) (c .before .before .before .put-times .ensures) (taskLength 0) (numberSize * c .before .before .before .before .before .before .args .m) (length-times (c .before .before .before .before .before .before .args .task .separation) (c .before .before .before .before .before .before .args .task .work) (c .before .before .before .before .before .before .args .task .deadline)) (c .before .before .before .before .before .before .pre .1)))
+put-accesses-requires c κs =
+    let s = c .before .before .before .before .before .before in
+    let p = c .before .before .before .put-times in
+    (s .pre .0, rw length-access-bytes (free-has-room (s .args .free .now) _ (p .last .0) (p .result) (p .ensures) (taskLength 0) (numberSize * s .args .m) (length-times (s .args .task .separation) (s .args .task .work) (s .args .task .deadline)) (s .pre .1)))
 
--- src/put.rt:97:5
 add-at : tie.Need-add-at
-add-at c = omega (arith, end-within (c .before .before .before .before .before .before .before .before .before .args .free .now) _ (c .before .before .before .before .before .before .put-times .last .0) (c .before .before .before .before .before .before .put-times .result) (c .before .before .before .before .before .before .put-times .ensures) (taskLength 0) (numberSize * c .before .before .before .before .before .before .before .before .before .args .m) (length-times (c .before .before .before .before .before .before .before .before .before .args .task .separation) (c .before .before .before .before .before .before .before .before .before .args .task .work) (c .before .before .before .before .before .before .before .before .before .args .task .deadline)) (c .before .before .before .before .before .before .before .before .before .pre .1) _ (c .before .before .put-accesses .last .0) (c .before .before .put-accesses .result) (c .before .before .put-accesses .ensures) (length-access-bytes (c .before .before .before .before .before .before .before .before .before .args .task) (c .before .before .before .before .before .before .before .before .before .args .m)), c .before .before .before .before .before .before .before .before .before .good .0 .0)
+add-at c =
+    let s = c .before .before .before .before .before .before .before .before .before in
+    let p = c .before .before .before .before .before .before .put-times in
+    let e = c .before .before .put-accesses in
+    omega (arith, end-within (s .args .free .now) _ (p .last .0) (p .result) (p .ensures) (taskLength 0) (numberSize * s .args .m) (length-times (s .args .task .separation) (s .args .task .work) (s .args .task .deadline)) (s .pre .1) _ (e .last .0) (e .result) (e .ensures) (length-access-bytes (s .args .task) (s .args .m)), s .good .0 .0)
 
--- src/put.rt:92:1
 same-length : tie.Need-same-length
 same-length c = search needs
 
--- src/put.rt:92:1
 returns : tie.Need-returns
 unfolding taskValue taskM
-returns c = put-behind (c .before .before .before .before .before .before .before .before .before .args .free .now) _ (c .before .before .before .before .before .before .put-times .last .0) (c .before .before .before .before .before .before .put-times .result) (c .before .before .before .before .before .before .put-times .ensures) _ (c .before .before .put-accesses .last .0) (c .before .before .put-accesses .result) (c .before .before .put-accesses .ensures)
+returns c =
+    let s = c .before .before .before .before .before .before .before .before .before in
+    let p = c .before .before .before .before .before .before .put-times in
+    let e = c .before .before .put-accesses in
+    put-behind (s .args .free .now) _ (p .last .0) (p .result) (p .ensures) _ (e .last .0) (e .result) (e .ensures)
 
 pub put-task-value-spec : {M : Type 1} → statement M
 put-task-value-spec =

@@ -1,3 +1,4 @@
+-- `stored::put::put_tasks` meets its contract: the loop's invariant: the first i tasks are put. Assumes nothing.
 use borrow.Author.Needs.{needs}
 use Prim.Native.Nat.{_≤_, _-_}
 use mathlib.Core.List.{flatMap}
@@ -11,9 +12,6 @@ use Rattle.stored.proofs.WriteSteps.{put-keeps-length, list-begins, lis
 use native.Mathlib.Omega.{arith}
 use Rattle.stored.proofs.put.put_tasks.Statement.{statement}
 use Rattle.stored.proofs.put.put_tasks.Tie as tie
-use Rattle.stored.proofs.put.put_tasks.Reads as reads
-use Rattle.stored.proofs.put.put_tasks.Lts as lts
-use Rattle.stored.proofs.put.put_task.Reads as put-task-reads
 
 abbrev Inv-loop : tie.InvT-loop
 Inv-loop free₀ m sub n at₀ i₀ free at i = (i ≤ n) × IsPut (flatMap taskField (upTo (taskAt m sub) i)) free₀ free at
@@ -21,63 +19,72 @@ Inv-loop free₀ m sub n at₀ i₀ free at i = (i ≤ n) × IsPut (flatMap task
 abbrev μ-loop : tie.MeasureT-loop
 μ-loop free₀ m sub n at₀ i₀ free at i = n - i
 
--- src/put.rt:145:13
 cast-n : tie.Need-cast-n Inv-loop μ-loop
 cast-n c = search needs
 
--- src/put.rt:148:5
 loop-holds : tie.Need-loop-holds Inv-loop μ-loop
-loop-holds c = (search needs, list-begins taskField (taskAt (c .before .args .m) (c .before .args .t2)) (c .before .args .free .now))
+loop-holds c = let s = c .before in (search needs, list-begins taskField (taskAt (s .args .m) (s .args .t2)) (s .args .free .now))
 
--- src/put.rt:149:20
 mul-task : tie.Need-mul-task Inv-loop μ-loop
 mul-task c = search needs
 
--- src/put.rt:149:20
 element-copy-out-task : tie.Need-element-copy-out-task Inv-loop μ-loop
 element-copy-out-task c = search needs
 
--- src/put.rt:150:24
 sub-put-task : tie.Need-sub-put-task Inv-loop μ-loop
-sub-put-task c = list-starts-within taskField (taskAt (c .before .before .before .before .args .m) (c .before .before .before .before .args .t2)) (c .before .before .before .before .args .free .now) (c .before .before .before .before .args .t2 .count) (c .before .before .loop .i) (c .before .before .loop .at) (c .before .before .loop .free) (c .before .loop-test .taken) (c .before .before .before .before .pre .1) (c .before .before .loop .inv .1)
+sub-put-task c =
+    let s = c .before .before .before .before in
+    let k = c .before .before .loop in
+    list-starts-within taskField (taskAt (s .args .m) (s .args .t2)) (s .args .free .now) (s .args .t2 .count) (k .i) (k .at) (k .free) (c .before .loop-test .taken) (s .pre .1) (k .inv .1)
 
--- src/put.rt:150:24
 part-put-task-start : tie.Need-part-put-task-start Inv-loop μ-loop
-part-put-task-start c = list-starts-within taskField (taskAt (c .before .before .before .before .args .m) (c .before .before .before .before .args .t2)) (c .before .before .before .before .args .free .now) (c .before .before .before .before .args .t2 .count) (c .before .before .loop .i) (c .before .before .loop .at) (c .before .before .loop .free) (c .before .loop-test .taken) (c .before .before .before .before .pre .1) (c .before .before .loop .inv .1)
+part-put-task-start c =
+    let s = c .before .before .before .before in
+    let k = c .before .before .loop in
+    list-starts-within taskField (taskAt (s .args .m) (s .args .t2)) (s .args .free .now) (s .args .t2 .count) (k .i) (k .at) (k .free) (c .before .loop-test .taken) (s .pre .1) (k .inv .1)
 
--- src/put.rt:150:24
 part-put-task-end : tie.Need-part-put-task-end Inv-loop μ-loop
 part-put-task-end c = search needs
 
--- src/put.rt:150:15
 put-task-requires : tie.Need-put-task-requires Inv-loop μ-loop
-put-task-requires c κs = (c .before .before .before .before .before .pre .0 .0, list-has-room taskField (taskAt (c .before .before .before .before .before .args .m) (c .before .before .before .before .before .args .t2)) (c .before .before .before .before .before .args .free .now) (c .before .before .before .before .before .args .t2 .count) (c .before .before .before .loop .i) (c .before .before .before .loop .at) (c .before .before .before .loop .free) (c .before .before .loop-test .taken) (c .before .before .before .before .before .pre .1) (c .before .before .before .loop .inv .1) (fieldSize (taskLength (c .before .before .before .before .before .args .m))) (length-task-at (c .before .before .before .before .before .args .m) (c .before .before .before .before .before .args .t2) (c .before .before .before .loop .i)))
+put-task-requires c κs =
+    let s = c .before .before .before .before .before in
+    let k = c .before .before .before .loop in
+    (s .pre .0 .0, list-has-room taskField (taskAt (s .args .m) (s .args .t2)) (s .args .free .now) (s .args .t2 .count) (k .i) (k .at) (k .free) (c .before .before .loop-test .taken) (s .pre .1) (k .inv .1) (fieldSize (taskLength (s .args .m))) (length-task-at (s .args .m) (s .args .t2) (k .i)))
 
--- src/put.rt:150:9
 add-at : tie.Need-add-at Inv-loop μ-loop
 unfolding taskAt
-add-at c = omega (arith, list-ends-within taskField (taskAt (c .before .before .before .before .before .before .before .before .args .m) (c .before .before .before .before .before .before .before .before .args .t2)) (c .before .before .before .before .before .before .before .before .args .free .now) (c .before .before .before .before .before .before .before .before .args .t2 .count) (c .before .before .before .before .before .before .loop .i) (c .before .before .before .before .before .before .loop .at) (c .before .before .before .before .before .before .loop .free) (c .before .before .before .before .before .loop-test .taken) (c .before .before .before .before .before .before .before .before .pre .1) (c .before .before .before .before .before .before .loop .inv .1) (c .before .before .put-task .last .0) (c .before .before .put-task .result) (c .before .before .put-task .ensures), c .before .before .before .before .before .before .before .before .good .0 .0)
+add-at c =
+    let s = c .before .before .before .before .before .before .before .before in
+    let k = c .before .before .before .before .before .before .loop in
+    let e = c .before .before .put-task in
+    omega (arith, list-ends-within taskField (taskAt (s .args .m) (s .args .t2)) (s .args .free .now) (s .args .t2 .count) (k .i) (k .at) (k .free) (c .before .before .before .before .before .loop-test .taken) (s .pre .1) (k .inv .1) (e .last .0) (e .result) (e .ensures), s .good .0 .0)
 
--- src/put.rt:151:9
 add-i : tie.Need-add-i Inv-loop μ-loop
 add-i c = search needs
 
--- src/put.rt:148:5
 loop-less : tie.Need-loop-less Inv-loop μ-loop
 loop-less c = search needs
 
--- src/put.rt:148:5
 loop-again : tie.Need-loop-again Inv-loop μ-loop
 unfolding taskAt
-loop-again c = (search needs, list-goes-on taskField (taskAt (c .before .before .before .before .before .before .before .before .args .m) (c .before .before .before .before .before .before .before .before .args .t2)) (c .before .before .before .before .before .before .before .before .args .free .now) (c .before .before .before .before .before .before .before .before .args .t2 .count) (c .before .before .before .before .before .before .loop .i) (c .before .before .before .before .before .before .loop .at) (c .before .before .before .before .before .before .loop .free) (c .before .before .before .before .before .loop-test .taken) (c .before .before .before .before .before .before .before .before .pre .1) (c .before .before .before .before .before .before .loop .inv .1) (c .before .before .put-task .last .0) (c .before .before .put-task .result) (c .before .before .put-task .ensures))
+loop-again c =
+    let s = c .before .before .before .before .before .before .before .before in
+    let k = c .before .before .before .before .before .before .loop in
+    let e = c .before .before .put-task in
+    (search needs, list-goes-on taskField (taskAt (s .args .m) (s .args .t2)) (s .args .free .now) (s .args .t2 .count) (k .i) (k .at) (k .free) (c .before .before .before .before .before .loop-test .taken) (s .pre .1) (k .inv .1) (e .last .0) (e .result) (e .ensures))
 
--- src/put.rt:140:1
 same-length : tie.Need-same-length Inv-loop μ-loop
-same-length c = put-keeps-length (c .before .before .before .args .free .now) _ (c .before .loop .free) (c .before .loop .at) (list-ends taskField (taskAt (c .before .before .before .args .m) (c .before .before .before .args .t2)) (c .before .before .before .args .free .now) (c .before .before .before .args .t2 .count) (c .before .loop .i) (c .before .loop .at) (c .before .loop .free) (c .before .loop .inv .0) (c .loop-test .left) (c .before .loop .inv .1)) (c .before .before .before .pre .1)
+same-length c =
+    let s = c .before .before .before in
+    let k = c .before .loop in
+    put-keeps-length (s .args .free .now) _ (k .free) (k .at) (list-ends taskField (taskAt (s .args .m) (s .args .t2)) (s .args .free .now) (s .args .t2 .count) (k .i) (k .at) (k .free) (k .inv .0) (c .loop-test .left) (k .inv .1)) (s .pre .1)
 
--- src/put.rt:140:1
 returns : tie.Need-returns Inv-loop μ-loop
-returns c = list-ends taskField (taskAt (c .before .before .before .args .m) (c .before .before .before .args .t2)) (c .before .before .before .args .free .now) (c .before .before .before .args .t2 .count) (c .before .loop .i) (c .before .loop .at) (c .before .loop .free) (c .before .loop .inv .0) (c .loop-test .left) (c .before .loop .inv .1)
+returns c =
+    let s = c .before .before .before in
+    let k = c .before .loop in
+    list-ends taskField (taskAt (s .args .m) (s .args .t2)) (s .args .free .now) (s .args .t2 .count) (k .i) (k .at) (k .free) (k .inv .0) (c .loop-test .left) (k .inv .1)
 
 pub put-tasks-spec : {M : Type 1} → statement M
 put-tasks-spec =

@@ -1,26 +1,21 @@
-use native.Mathlib.Omega.{arith}
+-- `stored::read::answer_at` meets its contract: a field that is sound refuses nothing, and one that is not refuses at
+-- its offset. Assumes nothing.
 use borrow.Author.Needs.{needs}
 use Rattle.stored.specs.Read.{refusedAt, wholeUnless}
 use Rattle.stored.specs.declared.FieldAnswer.{FieldAnswer}
 use mathlib.Core.Path.{sym, ap}
 use Rattle.stored.proofs.read.answer_at.Statement.{statement}
 use Rattle.stored.proofs.read.answer_at.Tie as tie
-use Rattle.stored.proofs.read.answer_at.Reads as reads
-use Rattle.stored.proofs.read.answer_at.Lts as lts
 
--- src/read.rt:31:34
 enum-told : tie.Need-enum-told
 enum-told c = search needs
 
--- src/read.rt:32:29
 enum-known-answer : tie.Need-enum-known-answer
 enum-known-answer c = search needs
 
--- src/read.rt:27:1
 returns : tie.Need-returns
 returns c = search needs
 
--- src/read.rt:27:1
 returns-2 : tie.Need-returns-2
 returns-2 c =
     sym

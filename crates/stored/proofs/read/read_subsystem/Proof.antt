@@ -1,3 +1,4 @@
+-- `stored::read::read_subsystem` meets its contract: a sound field leaves the tasks to decide. Assumes nothing.
 use native.Mathlib.Omega.{arith}
 use borrow.Author.Needs.{needs}
 use native.Mathlib.Nat.{le-of-eq}
@@ -8,115 +9,84 @@ use Rattle.stored.proofs.ReadTasks.{partFrom}
 use Rattle.stored.proofs.ReadSubsystems.{subsystem-stops, tasks-decide, head-is-read, tasks-in-range, first-task-stands, first-task-within}
 use Rattle.stored.proofs.read.read_subsystem.Statement.{statement}
 use Rattle.stored.proofs.read.read_subsystem.Tie as tie
-use Rattle.stored.proofs.read.read_subsystem.Reads as reads
-use Rattle.stored.proofs.read.read_subsystem.Lts as lts
-use Rattle.stored.proofs.decode.decode_subsystem.Reads as decode-subsystem-reads
-use Rattle.stored.proofs.judge.judge_subsystem.Reads as judge-subsystem-reads
-use Rattle.stored.proofs.judge.value.Reads as value-reads
-use Rattle.stored.proofs.read.answer_at.Reads as answer-at-reads
-use Rattle.stored.proofs.read.read_tasks.Reads as read-tasks-reads
-use Rattle.table.proofs.Subsystem.zeros.Reads as zeros-reads
 
--- src/read.rt:75:16
 sub-rest : tie.Need-sub-rest
 sub-rest c = search needs
 
--- src/read.rt:75:16
 part-rest-start : tie.Need-part-rest-start
 part-rest-start c = search needs
 
--- src/read.rt:75:16
 part-rest-end : tie.Need-part-rest-end
 part-rest-end c = search needs
 
--- src/read.rt:76:9
 judge-subsystem-requires : tie.Need-judge-subsystem-requires
 judge-subsystem-requires c κs = search needs
 
--- src/read.rt:77:28
 enum-known-answer : tie.Need-enum-known-answer
 enum-known-answer c = search needs
 
--- src/read.rt:79:21
 enum-told : tie.Need-enum-told
 enum-told c = search needs
 
--- src/read.rt:79:21
 answer-at-requires : tie.Need-answer-at-requires
 answer-at-requires c κs = search needs
 
--- src/read.rt:80:24
 zeros-requires : tie.Need-zeros-requires
 zeros-requires c κs = search needs
 
--- src/read.rt:78:9
 returns : tie.Need-returns
 returns c =
     let s = c .before .before .before .before .before .before .before in
-    subsystem-stops (s .args .file .now) (s .args .m) (s .args .at) _ (s .pre .1) (c .before .before .before .before .judge-subsystem .ensures) (c .before .before .enum-told .given .0 .0) (c .before .answer-at .result) (c .zeros .result)
-    (c .before .before .enum-told .given .1)
-    (c .before .answer-at .ensures)
+    let j = c .before .before .before .before .judge-subsystem in
+    let told = c .before .before .enum-told .given in
+    let a = c .before .answer-at in
+    subsystem-stops (s .args .file .now) (s .args .m) (s .args .at) _ (s .pre .1) (j .ensures) (told .0 .0) (a .result) (c .zeros .result) (told .1) (a .ensures)
 
--- src/read.rt:84:33
 value-requires : tie.Need-value-requires
 value-requires c κs =
     let s = c .before .before .before .before .before .before in
-    sound-whole 2 9 subsystemInRange (partFrom (s .args .file .now) (s .args .at)) _ _ (c .before .before .before .judge-subsystem .ensures) (c .before .answer .given .1)
+    let j = c .before .before .before .judge-subsystem in
+    let told = c .before .answer .given in
+    sound-whole 2 9 subsystemInRange (partFrom (s .args .file .now) (s .args .at)) _ _ (j .ensures) (told .1)
 
--- src/read.rt:84:9
 decode-subsystem-requires : tie.Need-decode-subsystem-requires
 decode-subsystem-requires c κs =
     let s = c .before .before .before .before .before .before .before in
-    le-of-eq
-    (sym
-    (sound-value-length 2 9 subsystemInRange (partFrom (s .args .file .now) (s .args .at)) _ _ (c .before .before .before .before .judge-subsystem .ensures) (c .before .before .answer .given .1) (c .value .result .now)
-    (c .value .ensures)))
+    let j = c .before .before .before .before .judge-subsystem in
+    let told = c .before .before .answer .given in
+    le-of-eq (sym (sound-value-length 2 9 subsystemInRange (partFrom (s .args .file .now) (s .args .at)) _ _ (j .ensures) (told .1) (c .value .result .now) (c .value .ensures)))
 
--- src/read.rt:85:32
 add-read-tasks : tie.Need-add-read-tasks
 add-read-tasks c =
     let s = c .before .before .before .before .before .before .before .before in
-    omega (
-      arith,
-      first-task-within (s .args .file .now) (s .args .m) (s .args .at) _ (s .pre .1) (c .before .before .before .before .before .judge-subsystem .ensures) _ (c .before .before .before .answer .given .1),
-      s .good .0 .0,
-    )
+    let j = c .before .before .before .before .before .judge-subsystem in
+    let told = c .before .before .before .answer .given in
+    omega (arith, first-task-within (s .args .file .now) (s .args .m) (s .args .at) _ (s .pre .1) (j .ensures) _ (told .1), s .good .0 .0)
 
--- src/read.rt:85:32
 add-read-tasks-2 : tie.Need-add-read-tasks-2
 add-read-tasks-2 c =
     let s = c .before .before .before .before .before .before .before .before in
-    omega (
-      arith,
-      first-task-within (s .args .file .now) (s .args .m) (s .args .at) _ (s .pre .1) (c .before .before .before .before .before .judge-subsystem .ensures) _ (c .before .before .before .answer .given .1),
-      s .good .0 .0,
-    )
+    let j = c .before .before .before .before .before .judge-subsystem in
+    let told = c .before .before .before .answer .given in
+    omega (arith, first-task-within (s .args .file .now) (s .args .m) (s .args .at) _ (s .pre .1) (j .ensures) _ (told .1), s .good .0 .0)
 
--- src/read.rt:85:5
 read-tasks-requires : tie.Need-read-tasks-requires
 read-tasks-requires c κs =
     let s = c .before .before .before .before .before .before .before .before in
-    let file = s .args .file .now in
-    let head = head-is-read file (s .args .m) (s .args .at) _ (s .pre .1) (c .before .before .before .before .before .judge-subsystem .ensures) _ (c .before .before .before .answer .given .1) (c .before .value .result .now) (c .decode-subsystem .result) (c .before .value .ensures) (c .decode-subsystem .ensures) in (
-      (
-        s .pre .0,
-        (
-          tasks-in-range file (s .args .m) (s .args .at) _ (s .pre .1) (c .before .before .before .before .before .judge-subsystem .ensures) _ (c .before .before .before .answer .given .1) _ head .1,
-          head,
-        ),
-      ),
-      (
-        first-task-stands file (s .args .m) (s .args .at) _ (s .pre .1) (c .before .before .before .before .before .judge-subsystem .ensures) _ (c .before .before .before .answer .given .1),
-        first-task-within file (s .args .m) (s .args .at) _ (s .pre .1) (c .before .before .before .before .before .judge-subsystem .ensures) _ (c .before .before .before .answer .given .1),
-      ),
+    let j = c .before .before .before .before .before .judge-subsystem in
+    let told = c .before .before .before .answer .given in
+    let v = c .before .value in
+    let head = head-is-read (s .args .file .now) (s .args .m) (s .args .at) _ (s .pre .1) (j .ensures) _ (told .1) (v .result .now) (c .decode-subsystem .result) (v .ensures) (c .decode-subsystem .ensures) in (
+      (s .pre .0, (tasks-in-range (s .args .file .now) (s .args .m) (s .args .at) _ (s .pre .1) (j .ensures) _ (told .1) _ head .1, head)),
+      (first-task-stands (s .args .file .now) (s .args .m) (s .args .at) _ (s .pre .1) (j .ensures) _ (told .1), first-task-within (s .args .file .now) (s .args .m) (s .args .at) _ (s .pre .1) (j .ensures) _ (told .1)),
     )
 
--- src/read.rt:71:1
 returns-2 : tie.Need-returns-2
 returns-2 c =
     let s = c .before .before .before .before .before .before .before .before .before in
-    tasks-decide (s .args .file .now) (s .args .m) (s .args .at) _ (s .pre .1) (c .before .before .before .before .before .before .judge-subsystem .ensures) _ (c .before .before .before .before .answer .given .1) (c .read-tasks .result)
-    (c .read-tasks .ensures)
+    let j = c .before .before .before .before .before .before .judge-subsystem in
+    let told = c .before .before .before .before .answer .given in
+    tasks-decide (s .args .file .now) (s .args .m) (s .args .at) _ (s .pre .1) (j .ensures) _ (told .1) (c .read-tasks .result) (c .read-tasks .ensures)
 
 pub read-subsystem-spec : {M : Type 1} → statement M
 read-subsystem-spec =

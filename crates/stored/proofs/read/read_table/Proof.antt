@@ -1,3 +1,4 @@
+-- `stored::read::read_table` meets its contract: a sound header leaves the subsystems to decide. Assumes nothing.
 use native.Mathlib.Omega.{arith}
 use borrow.Author.Needs.{needs}
 use native.Mathlib.Nat.{le-of-eq}
@@ -8,93 +9,80 @@ use Rattle.stored.proofs.ReadTasks.{partFrom}
 use Rattle.stored.proofs.ReadSubsystems.{header-stops, body-decides, header-is-read, counts-in-range, first-subsystem-stands, first-subsystem-within}
 use Rattle.stored.proofs.read.read_table.Statement.{statement}
 use Rattle.stored.proofs.read.read_table.Tie as tie
-use Rattle.stored.proofs.read.read_table.Reads as reads
-use Rattle.stored.proofs.read.read_table.Lts as lts
-use Rattle.stored.proofs.decode.decode_header.Reads as decode-header-reads
-use Rattle.stored.proofs.judge.judge_header.Reads as judge-header-reads
-use Rattle.stored.proofs.judge.value.Reads as value-reads
-use Rattle.stored.proofs.read.answer_at.Reads as answer-at-reads
-use Rattle.stored.proofs.read.read_subsystems.Reads as read-subsystems-reads
-use Rattle.table.proofs.Table.zeros.Reads as zeros-reads
 
--- src/read.rt:131:16
 sub-rest : tie.Need-sub-rest
 sub-rest c = search needs
 
--- src/read.rt:131:16
 part-rest-start : tie.Need-part-rest-start
 part-rest-start c = search needs
 
--- src/read.rt:131:16
 part-rest-end : tie.Need-part-rest-end
 part-rest-end c = search needs
 
--- src/read.rt:132:9
 judge-header-requires : tie.Need-judge-header-requires
 judge-header-requires c κs = search needs
 
--- src/read.rt:133:28
 enum-known-answer : tie.Need-enum-known-answer
 enum-known-answer c = search needs
 
--- src/read.rt:135:21
 enum-told : tie.Need-enum-told
 enum-told c = search needs
 
--- src/read.rt:135:21
 answer-at-requires : tie.Need-answer-at-requires
 answer-at-requires c κs = search needs
 
--- src/read.rt:136:20
 zeros-requires : tie.Need-zeros-requires
 zeros-requires c κs = search needs
 
--- src/read.rt:134:9
 returns : tie.Need-returns
 returns c =
-    header-stops (c .before .before .before .before .before .before .before .args .file .now) _ (c .before .before .before .before .judge-header .ensures) (c .before .before .enum-told .given .0 .0) (c .before .answer-at .result) (c .zeros .result)
-    (c .before .before .enum-told .given .1)
-    (c .before .answer-at .ensures)
-    (c .zeros .ensures)
+    let file = c .before .before .before .before .before .before .before .args .file .now in
+    let j = c .before .before .before .before .judge-header in
+    let told = c .before .before .enum-told .given in
+    let a = c .before .answer-at in
+    header-stops file _ (j .ensures) (told .0 .0) (a .result) (c .zeros .result) (told .1) (a .ensures) (c .zeros .ensures)
 
--- src/read.rt:139:30
 value-requires : tie.Need-value-requires
 value-requires c κs =
-    sound-whole 1 3 headerInRange (partFrom (c .before .before .before .before .before .before .args .file .now) 0) _ _ (c .before .before .before .judge-header .ensures) (c .before .answer .given .1)
+    let file = c .before .before .before .before .before .before .args .file .now in
+    let j = c .before .before .before .judge-header in
+    let told = c .before .answer .given in
+    sound-whole 1 3 headerInRange (partFrom file 0) _ _ (j .ensures) (told .1)
 
--- src/read.rt:139:9
 decode-header-requires : tie.Need-decode-header-requires
 decode-header-requires c κs =
-    le-of-eq
-    (sym
-    (sound-value-length 1 3 headerInRange (partFrom (c .before .before .before .before .before .before .before .args .file .now) 0) _ _ (c .before .before .before .before .judge-header .ensures) (c .before .before .answer .given .1) (c .value .result .now)
-    (c .value .ensures)))
+    let file = c .before .before .before .before .before .before .before .args .file .now in
+    let j = c .before .before .before .before .judge-header in
+    let told = c .before .before .answer .given in
+    le-of-eq (sym (sound-value-length 1 3 headerInRange (partFrom file 0) _ _ (j .ensures) (told .1) (c .value .result .now) (c .value .ensures)))
 
--- src/read.rt:140:33
 add-read-subsystems : tie.Need-add-read-subsystems
 add-read-subsystems c =
-    let s = c .before .before .before .before .before .before .before .before in
-    omega (arith, first-subsystem-within (s .args .file .now) _ (c .before .before .before .before .before .judge-header .ensures) _ (c .before .before .before .answer .given .1), s .good .0 .0)
+    let file = c .before .before .before .before .before .before .before .before .args .file .now in
+    let j = c .before .before .before .before .before .judge-header in
+    let told = c .before .before .before .answer .given in
+    omega (arith, first-subsystem-within file _ (j .ensures) _ (told .1), c .before .before .before .before .before .before .before .before .good .0 .0)
 
--- src/read.rt:140:5
 read-subsystems-requires : tie.Need-read-subsystems-requires
 read-subsystems-requires c κs =
     let file = c .before .before .before .before .before .before .before .before .args .file .now in
-    let head = header-is-read file _ (c .before .before .before .before .before .judge-header .ensures) _ (c .before .before .before .answer .given .1) (c .before .value .result .now) (c .decode-header .result) (c .before .value .ensures) (c .decode-header .ensures) in
-    let counts = counts-in-range file _ (c .before .before .before .before .before .judge-header .ensures) _ (c .before .before .before .answer .given .1) _ head in (
-      (counts .0, (counts .1, head)),
-      (
-        first-subsystem-stands file _ (c .before .before .before .before .before .judge-header .ensures) _ (c .before .before .before .answer .given .1) _,
-        first-subsystem-within file _ (c .before .before .before .before .before .judge-header .ensures) _ (c .before .before .before .answer .given .1),
-      ),
-    )
+    let j = c .before .before .before .before .before .judge-header in
+    let told = c .before .before .before .answer .given in
+    let v = c .before .value in
+    let d = c .decode-header in
+    let head = header-is-read file _ (j .ensures) _ (told .1) (v .result .now) (d .result) (v .ensures) (d .ensures) in
+    let counts = counts-in-range file _ (j .ensures) _ (told .1) _ head in
+    ((counts .0, (counts .1, head)), (first-subsystem-stands file _ (j .ensures) _ (told .1) _, first-subsystem-within file _ (j .ensures) _ (told .1)))
 
--- src/read.rt:128:1
 returns-2 : tie.Need-returns-2
 returns-2 c =
     let file = c .before .before .before .before .before .before .before .before .before .args .file .now in
-    let head = header-is-read file _ (c .before .before .before .before .before .before .judge-header .ensures) _ (c .before .before .before .before .answer .given .1) (c .before .before .value .result .now) (c .before .decode-header .result) (c .before .before .value .ensures) (c .before .decode-header .ensures) in
-    body-decides file _ (c .before .before .before .before .before .before .judge-header .ensures) _ (c .before .before .before .before .answer .given .1) _ head (c .read-subsystems .result) (c .read-subsystems .ensures)
+    let j = c .before .before .before .before .before .before .judge-header in
+    let told = c .before .before .before .before .answer .given in
+    let v = c .before .before .value in
+    let d = c .before .decode-header in
+    let head = header-is-read file _ (j .ensures) _ (told .1) (v .result .now) (d .result) (v .ensures) (d .ensures) in
+    body-decides file _ (j .ensures) _ (told .1) _ head (c .read-subsystems .result) (c .read-subsystems .ensures)
 
 pub read-table-spec : {M : Type 1} → statement M
 read-table-spec =

@@ -1,3 +1,5 @@
+-- `stored::read::read_tasks` meets its contract: the loop's invariant: what is read of the first i tasks, and that what
+-- is left gives the answer. Assumes nothing.
 use borrow.Author.Needs.{needs}
 use Rattle.table.specs.declared.Subsystem.{Subsystem}
 use native.Mathlib.Nat.{le-of-eq}
@@ -10,12 +12,6 @@ use Prim.Native.Nat.{_-_}
 use native.Mathlib.Omega.{arith}
 use Rattle.stored.proofs.read.read_tasks.Statement.{statement}
 use Rattle.stored.proofs.read.read_tasks.Tie as tie
-use Rattle.stored.proofs.read.read_tasks.Reads as reads
-use Rattle.stored.proofs.read.read_tasks.Lts as lts
-use Rattle.stored.proofs.decode.decode_task.Reads as decode-task-reads
-use Rattle.stored.proofs.judge.judge.Reads as judge-reads
-use Rattle.stored.proofs.judge.value.Reads as value-reads
-use Rattle.stored.proofs.read.answer_at.Reads as answer-at-reads
 
 abbrev Inv-loop : tie.InvT-loop
 Inv-loop file at first m n sub₀ place₀ i₀ sub place i = TasksTo file m at n i place sub
@@ -23,122 +19,94 @@ Inv-loop file at first m n sub₀ place₀ i₀ sub place i = TasksTo file m at 
 abbrev μ-loop : tie.MeasureT-loop
 μ-loop file at first m n sub₀ place₀ i₀ sub place i = n - i
 
--- src/read.rt:43:13
 cast-n : tie.Need-cast-n Inv-loop μ-loop
 cast-n c = search needs
 
--- src/read.rt:47:5
 loop-holds : tie.Need-loop-holds Inv-loop μ-loop
 loop-holds c =
     let s = c .before .before in
     tasks-begin (s .args .file .now) (s .args .m) (s .args .at) (s .args .first) (s .args .head) (s .pre .0 .1 .1) (s .pre .1 .0) (s .pre .1 .1)
 
--- src/read.rt:48:20
 sub-rest : tie.Need-sub-rest Inv-loop μ-loop
 sub-rest c = search needs
 
--- src/read.rt:48:20
 part-rest-start : tie.Need-part-rest-start Inv-loop μ-loop
 part-rest-start c = search needs
 
--- src/read.rt:48:20
 part-rest-end : tie.Need-part-rest-end Inv-loop μ-loop
 part-rest-end c = search needs
 
--- src/read.rt:49:53
 mul-judge : tie.Need-mul-judge Inv-loop μ-loop
 mul-judge c = search needs
 
--- src/read.rt:49:40
 add-judge : tie.Need-add-judge Inv-loop μ-loop
 add-judge c = search needs
 
--- src/read.rt:49:13
 judge-requires : tie.Need-judge-requires Inv-loop μ-loop
 judge-requires c κs = search needs
 
--- src/read.rt:50:32
 enum-known-answer : tie.Need-enum-known-answer Inv-loop μ-loop
 enum-known-answer c = search needs
 
--- src/read.rt:52:25
 enum-told : tie.Need-enum-told Inv-loop μ-loop
 enum-told c = search needs
 
--- src/read.rt:52:25
 answer-at-requires : tie.Need-answer-at-requires Inv-loop μ-loop
 answer-at-requires c κs = search needs
 
--- src/read.rt:51:13
 returns : tie.Need-returns Inv-loop μ-loop
 returns c =
     let k = c .before .before .before .before .before .before in
     let s = k .before .before .before in
-    tasks-stop (s .args .file .now) (s .args .m) (s .args .at) (s .args .head .count) (k .loop .i) (k .loop .place) (k .loop .sub) (k .loop .inv) (c .before .before .before .before .before .loop-test .taken) (c .before .before .before .judge .result) (c .before .before .before .judge .ensures) (c .before .enum-told .given .0 .0) (c .answer-at .result) (c .before .enum-told .given .1) (c .answer-at .ensures)
+    let j = c .before .before .before .judge in
+    let told = c .before .enum-told .given in
+    tasks-stop (s .args .file .now) (s .args .m) (s .args .at) (s .args .head .count) (k .loop .i) (k .loop .place) (k .loop .sub) (k .loop .inv) (c .before .before .before .before .before .loop-test .taken) (j .result) (j .ensures) (told .0 .0) (c .answer-at .result) (told .1) (c .answer-at .ensures)
 
--- src/read.rt:57:32
 value-requires : tie.Need-value-requires Inv-loop μ-loop
 value-requires c κs =
     let k = c .before .before .before .before .before .before in
     let s = k .before .before .before in
     sound-whole 3 (taskLength (s .args .m)) anyValue (partFrom (s .args .file .now) (k .loop .place)) _ _ (c .before .before .before .judge .ensures) (c .before .answer .given .1)
 
--- src/read.rt:57:13
 decode-task-requires : tie.Need-decode-task-requires Inv-loop μ-loop
 decode-task-requires c κs =
     let k = c .before .before .before .before .before .before .before in
-    let s = k .before .before .before in (
-      s .pre .0 .0,
-      le-of-eq
-          (sym (sound-value-length 3 (taskLength (s .args .m)) anyValue (partFrom (s .args .file .now) (k .loop .place)) _ _ (c .before .before .before .before .judge .ensures) (c .before .before .answer .given .1) (c .value .result .now) (c .value .ensures))),
-    )
+    let s = k .before .before .before in
+    let size = sound-value-length 3 (taskLength (s .args .m)) anyValue (partFrom (s .args .file .now) (k .loop .place)) _ _ (c .before .before .before .before .judge .ensures) (c .before .before .answer .given .1) (c .value .result .now) (c .value .ensures) in
+    (s .pre .0 .0, le-of-eq (sym size))
 
--- src/read.rt:58:9
 mul-task : tie.Need-mul-task Inv-loop μ-loop
 mul-task c = search needs
 
--- src/read.rt:58:9
 element-set-from-task : tie.Need-element-set-from-task Inv-loop μ-loop
 element-set-from-task c = search needs
 
--- src/read.rt:59:18
 add-place : tie.Need-add-place Inv-loop μ-loop
 add-place c =
     let k = c .before .before .before .before .before .before .before .before in
     let s = k .before .before .before in
-    omega (
-      arith,
-      sound-length 3 (taskLength (s .args .m)) anyValue (partFrom (s .args .file .now) (k .loop .place)) _ _ (c .before .before .before .before .before .judge .ensures) (c .before .before .before .answer .given .1),
-      s .pre .0 .0,
-    )
+    omega (arith, sound-length 3 (taskLength (s .args .m)) anyValue (partFrom (s .args .file .now) (k .loop .place)) _ _ (c .before .before .before .before .before .judge .ensures) (c .before .before .before .answer .given .1), s .pre .0 .0)
 
--- src/read.rt:59:9
 add-place-2 : tie.Need-add-place-2 Inv-loop μ-loop
 add-place-2 c =
     let k = c .before .before .before .before .before .before .before .before in
     let s = k .before .before .before in
-    omega (
-      arith,
-      whole-within (s .args .file .now) (k .loop .place) _ (k .loop .inv .within) (sound-whole 3 (taskLength (s .args .m)) anyValue (partFrom (s .args .file .now) (k .loop .place)) _ _ (c .before .before .before .before .before .judge .ensures) (c .before .before .before .answer .given .1)),
-      s .good .0 .0,
-    )
+    let whole = sound-whole 3 (taskLength (s .args .m)) anyValue (partFrom (s .args .file .now) (k .loop .place)) _ _ (c .before .before .before .before .before .judge .ensures) (c .before .before .before .answer .given .1) in
+    omega (arith, whole-within (s .args .file .now) (k .loop .place) _ (k .loop .inv .within) whole, s .good .0 .0)
 
--- src/read.rt:60:9
 add-i : tie.Need-add-i Inv-loop μ-loop
 add-i c = search needs
 
--- src/read.rt:47:5
 loop-less : tie.Need-loop-less Inv-loop μ-loop
 loop-less c = search needs
 
--- src/read.rt:47:5
 loop-again : tie.Need-loop-again Inv-loop μ-loop
 loop-again c =
     let k = c .before .before .before .before .before .before .before .before in
     let s = k .before .before .before in
-    tasks-go-on (s .args .file .now) (s .args .m) (s .args .at) (s .args .head .count) (k .loop .i) (k .loop .place) (k .loop .sub) (k .loop .inv) (c .before .before .before .before .before .before .before .loop-test .taken) _ (c .before .before .before .before .before .judge .ensures) _ (c .before .value .result .now) (c .decode-task .result) (c .before .before .before .answer .given .1) (c .before .value .ensures) (c .decode-task .ensures) (s .pre .0 .1 .0)
+    let v = c .before .value in
+    tasks-go-on (s .args .file .now) (s .args .m) (s .args .at) (s .args .head .count) (k .loop .i) (k .loop .place) (k .loop .sub) (k .loop .inv) (c .before .before .before .before .before .before .before .loop-test .taken) _ (c .before .before .before .before .before .judge .ensures) _ (v .result .now) (c .decode-task .result) (c .before .before .before .answer .given .1) (v .ensures) (c .decode-task .ensures) (s .pre .0 .1 .0)
 
--- src/read.rt:38:1
 returns-2 : tie.Need-returns-2 Inv-loop μ-loop
 returns-2 c =
     let k = c .before in

@@ -1,3 +1,5 @@
+-- `stored::write::file_length` meets its contract: the loop's invariant: the length of the header and the first s
+-- subsystems, and a bound of it. Assumes nothing.
 use borrow.Author.Needs.{needs}
 use native.Mathlib.Nat.{mul-le-mul}
 use Rattle.table.specs.declared.Subsystem.{Subsystem}
@@ -15,8 +17,6 @@ use Rattle.stored.specs.Field.{fieldSize, headerLength, taskLength}
 use native.Mathlib.Omega.{arith}
 use Rattle.stored.proofs.write.file_length.Statement.{statement}
 use Rattle.stored.proofs.write.file_length.Tie as tie
-use Rattle.stored.proofs.write.file_length.Reads as reads
-use Rattle.stored.proofs.write.file_length.Lts as lts
 
 abbrev Inv-loop : tie.InvT-loop
 Inv-loop t n m task-size total₀ s₀ total s = (s ≤ n) × (total ≡ fieldSize headerLength + length (flatMap subsystemBytes (upTo (subsystemAt t) s))) × (total ≤ fieldSize headerLength + s * 263937)
@@ -40,71 +40,54 @@ tasks-counted c =
 size-bounded : (tasks m : ℕ) → tasks < 256 → m < 256 → tasks * fieldSize (taskLength m) ≤ 263925
 size-bounded tasks m h l = mul-le-mul {n₂ = 255} {m₂ = 1035} (omega arith) (omega arith)
 
--- src/write.rt:31:13
 cast-n : tie.Need-cast-n Inv-loop μ-loop
 cast-n c = search needs
 
--- src/write.rt:32:13
 cast-m : tie.Need-cast-m Inv-loop μ-loop
 cast-m c = search needs
 
--- src/write.rt:33:21
 add-task-size : tie.Need-add-task-size Inv-loop μ-loop
 add-task-size c = search needs
 
--- src/write.rt:33:42
 mul-task-size : tie.Need-mul-task-size Inv-loop μ-loop
 mul-task-size c = search needs
 
--- src/write.rt:33:21
 add-task-size-2 : tie.Need-add-task-size-2 Inv-loop μ-loop
 add-task-size-2 c = search needs
 
--- src/write.rt:34:21
 add-total : tie.Need-add-total Inv-loop μ-loop
 add-total c = search needs
 
--- src/write.rt:36:5
 loop-holds : tie.Need-loop-holds Inv-loop μ-loop
 loop-holds c = (omega arith, omega (arith, ap length (flatMap-none subsystemBytes (subsystemAt (c .args .t1)))), omega arith)
 
--- src/write.rt:39:23
 mul-sub : tie.Need-mul-sub Inv-loop μ-loop
 mul-sub c = search needs
 
--- src/write.rt:39:23
 element-copy-out-sub : tie.Need-element-copy-out-sub Inv-loop μ-loop
 element-copy-out-sub c = search needs
 
--- src/write.rt:40:21
 cast-tasks : tie.Need-cast-tasks Inv-loop μ-loop
 cast-tasks c = search needs
 
--- src/write.rt:42:18
 add-total-2 : tie.Need-add-total-2 Inv-loop μ-loop
 add-total-2 c = search needs
 
--- src/write.rt:42:45
 mul-total : tie.Need-mul-total Inv-loop μ-loop
 mul-total c = omega (arith, size-bounded (c .before .if1 .tasks) (c .before .before .before .before .args .t1 .resources) (tasks-counted (c .before) .1) (omega arith))
 
--- src/write.rt:42:18
 add-total-3 : tie.Need-add-total-3 Inv-loop μ-loop
 add-total-3 c = omega (arith, size-bounded (c .before .if1 .tasks) (c .before .before .before .before .args .t1 .resources) (tasks-counted (c .before) .1) (omega arith))
 
--- src/write.rt:42:9
 add-total-4 : tie.Need-add-total-4 Inv-loop μ-loop
 add-total-4 c = omega (arith, size-bounded (c .before .if1 .tasks) (c .before .before .before .before .args .t1 .resources) (tasks-counted (c .before) .1) (omega arith), c .before .before .before .loop .inv)
 
--- src/write.rt:43:9
 add-s : tie.Need-add-s Inv-loop μ-loop
 add-s c = search needs
 
--- src/write.rt:36:5
 loop-less : tie.Need-loop-less Inv-loop μ-loop
 loop-less c = search needs
 
--- src/write.rt:36:5
 loop-again : tie.Need-loop-again Inv-loop μ-loop
 loop-again c = (
   omega arith,
@@ -112,7 +95,6 @@ loop-again c = (
   omega (arith, size-bounded (c .before .if1 .tasks) (c .before .before .before .before .args .t1 .resources) (tasks-counted (c .before) .1) (omega arith), c .before .before .before .loop .inv .2),
 )
 
--- src/write.rt:28:1
 returns : tie.Need-returns Inv-loop μ-loop
 returns c =
     let done : c .before .loop .s ≡ c .before .before .args .t1 .count = omega arith in

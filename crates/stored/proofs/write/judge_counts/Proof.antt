@@ -1,36 +1,26 @@
-use native.Mathlib.Omega.{arith}
+-- `stored::write::judge_counts` meets its contract: N and M decide first, and then the subsystems. Assumes nothing.
 use borrow.Author.Needs.{needs}
 use mathlib.Core.Path.{sym, _∙_}
 use Rattle.rules.proofs.OrderLaws.{in-range}
 use Rattle.stored.proofs.CountLaws.{refused-by-n, refused-by-m, subsystems-decide}
 use Rattle.stored.proofs.write.judge_counts.Statement.{statement}
 use Rattle.stored.proofs.write.judge_counts.Tie as tie
-use Rattle.stored.proofs.write.judge_counts.Reads as reads
-use Rattle.stored.proofs.write.judge_counts.Lts as lts
-use Rattle.rules.proofs.breaks.count_out.Reads as count-out-reads
-use Rattle.rules.proofs.judging.refused_by_counts.Reads as refused-by-counts-reads
 
--- src/write.rt:52:8
 count-out-requires : tie.Need-count-out-requires
 count-out-requires c κs = search needs
 
--- src/write.rt:53:9
 returns : tie.Need-returns
 returns c = refused-by-n (c .before .before .args .t) _ (c .before .count-out .ensures) (c .if1 .taken)
 
--- src/write.rt:61:23
 cast-if2 : tie.Need-cast-if2
 cast-if2 c = search needs
 
--- src/write.rt:62:9
 returns-2 : tie.Need-returns-2
 returns-2 c = refused-by-m (c .before .before .before .before .args .t) _ (c .before .before .before .count-out .ensures) (c .before .before .if1 .left) (c .if2 .taken)
 
--- src/write.rt:70:5
 refused-by-counts-requires : tie.Need-refused-by-counts-requires
 refused-by-counts-requires c κs = in-range (c .before .before .before .before .args .t .count) (sym (c .before .before .before .count-out .ensures) ∙ c .before .before .if1 .left) .1
 
--- src/write.rt:49:1
 returns-3 : tie.Need-returns-3
 returns-3 c = c .refused-by-counts .ensures ∙ subsystems-decide (c .before .before .before .before .before .args .t) _ (c .before .before .before .before .count-out .ensures) (c .before .before .before .if1 .left) (c .before .if2 .left)
 

@@ -1,3 +1,5 @@
+-- `stored::write::put_subsystems` meets its contract: the loop's invariant: the first s subsystems are put. Assumes
+-- nothing.
 use borrow.Author.Needs.{needs}
 use Prim.Native.Nat.{_≤_, _-_}
 use mathlib.Core.Path.{refl}
@@ -10,9 +12,6 @@ use Rattle.stored.proofs.WriteSteps.{put-keeps-length, list-begins, lis
 use native.Mathlib.Omega.{arith}
 use Rattle.stored.proofs.write.put_subsystems.Statement.{statement}
 use Rattle.stored.proofs.write.put_subsystems.Tie as tie
-use Rattle.stored.proofs.write.put_subsystems.Reads as reads
-use Rattle.stored.proofs.write.put_subsystems.Lts as lts
-use Rattle.stored.proofs.put.put_subsystem.Reads as put-subsystem-reads
 
 abbrev Inv-loop : tie.InvT-loop
 Inv-loop free₀ t n m at₀ s₀ free at s = (s ≤ n) × IsPut (flatMap subsystemBytes (upTo (subsystemAt t) s)) free₀ free at
@@ -20,70 +19,77 @@ Inv-loop free₀ t n m at₀ s₀ free at s = (s ≤ n) × IsPut (flatMap subsys
 abbrev μ-loop : tie.MeasureT-loop
 μ-loop free₀ t n m at₀ s₀ free at s = n - s
 
--- src/write.rt:79:13
 cast-n : tie.Need-cast-n Inv-loop μ-loop
 cast-n c = search needs
 
--- src/write.rt:80:13
 cast-m : tie.Need-cast-m Inv-loop μ-loop
 cast-m c = search needs
 
--- src/write.rt:83:5
 loop-holds : tie.Need-loop-holds Inv-loop μ-loop
-loop-holds c = (search needs, list-begins subsystemBytes (subsystemAt (c .before .args .t2)) (c .before .args .free .now))
+loop-holds c = let s = c .before in (search needs, list-begins subsystemBytes (subsystemAt (s .args .t2)) (s .args .free .now))
 
--- src/write.rt:84:19
 mul-sub : tie.Need-mul-sub Inv-loop μ-loop
 mul-sub c = search needs
 
--- src/write.rt:84:19
 element-copy-out-sub : tie.Need-element-copy-out-sub Inv-loop μ-loop
 element-copy-out-sub c = search needs
 
--- src/write.rt:85:29
 sub-put-subsystem : tie.Need-sub-put-subsystem Inv-loop μ-loop
-sub-put-subsystem c = list-starts-within subsystemBytes (subsystemAt (c .before .before .before .before .args .t2)) (c .before .before .before .before .args .free .now) (c .before .before .before .before .args .t2 .count) (c .before .before .loop .s) (c .before .before .loop .at) (c .before .before .loop .free) (c .before .loop-test .taken) (c .before .before .before .before .pre .1) (c .before .before .loop .inv .1)
+sub-put-subsystem c =
+    let s = c .before .before .before .before in
+    let k = c .before .before .loop in
+    list-starts-within subsystemBytes (subsystemAt (s .args .t2)) (s .args .free .now) (s .args .t2 .count) (k .s) (k .at) (k .free) (c .before .loop-test .taken) (s .pre .1) (k .inv .1)
 
--- src/write.rt:85:29
 part-put-subsystem-start : tie.Need-part-put-subsystem-start Inv-loop μ-loop
-part-put-subsystem-start c = list-starts-within subsystemBytes (subsystemAt (c .before .before .before .before .args .t2)) (c .before .before .before .before .args .free .now) (c .before .before .before .before .args .t2 .count) (c .before .before .loop .s) (c .before .before .loop .at) (c .before .before .loop .free) (c .before .loop-test .taken) (c .before .before .before .before .pre .1) (c .before .before .loop .inv .1)
+part-put-subsystem-start c =
+    let s = c .before .before .before .before in
+    let k = c .before .before .loop in
+    list-starts-within subsystemBytes (subsystemAt (s .args .t2)) (s .args .free .now) (s .args .t2 .count) (k .s) (k .at) (k .free) (c .before .loop-test .taken) (s .pre .1) (k .inv .1)
 
--- src/write.rt:85:29
 part-put-subsystem-end : tie.Need-part-put-subsystem-end Inv-loop μ-loop
 part-put-subsystem-end c = search needs
 
--- src/write.rt:85:15
 put-subsystem-requires : tie.Need-put-subsystem-requires Inv-loop μ-loop
 unfolding subsystemAt
 put-subsystem-requires c κs =
-    let counts = c .before .before .before .before .before .pre .0 in
-    ((counts .resources-most, counts .counted (c .before .before .before .loop .s) (c .before .before .loop-test .taken) .tasks-most), list-has-room subsystemBytes (subsystemAt (c .before .before .before .before .before .args .t2)) (c .before .before .before .before .before .args .free .now) (c .before .before .before .before .before .args .t2 .count) (c .before .before .before .loop .s) (c .before .before .before .loop .at) (c .before .before .before .loop .free) (c .before .before .loop-test .taken) (c .before .before .before .before .before .pre .1) (c .before .before .before .loop .inv .1) _ refl)
+    let s = c .before .before .before .before .before in
+    let k = c .before .before .before .loop in
+    let counts = s .pre .0 in
+    ((counts .resources-most, counts .counted (k .s) (c .before .before .loop-test .taken) .tasks-most), list-has-room subsystemBytes (subsystemAt (s .args .t2)) (s .args .free .now) (s .args .t2 .count) (k .s) (k .at) (k .free) (c .before .before .loop-test .taken) (s .pre .1) (k .inv .1) _ refl)
 
--- src/write.rt:85:9
 add-at : tie.Need-add-at Inv-loop μ-loop
 unfolding subsystemAt
-add-at c = omega (arith, list-ends-within subsystemBytes (subsystemAt (c .before .before .before .before .before .before .before .before .args .t2)) (c .before .before .before .before .before .before .before .before .args .free .now) (c .before .before .before .before .before .before .before .before .args .t2 .count) (c .before .before .before .before .before .before .loop .s) (c .before .before .before .before .before .before .loop .at) (c .before .before .before .before .before .before .loop .free) (c .before .before .before .before .before .loop-test .taken) (c .before .before .before .before .before .before .before .before .pre .1) (c .before .before .before .before .before .before .loop .inv .1) (c .before .before .put-subsystem .last .0) (c .before .before .put-subsystem .result) (c .before .before .put-subsystem .ensures), c .before .before .before .before .before .before .before .before .good .0 .0)
+add-at c =
+    let s = c .before .before .before .before .before .before .before .before in
+    let k = c .before .before .before .before .before .before .loop in
+    let e = c .before .before .put-subsystem in
+    omega (arith, list-ends-within subsystemBytes (subsystemAt (s .args .t2)) (s .args .free .now) (s .args .t2 .count) (k .s) (k .at) (k .free) (c .before .before .before .before .before .loop-test .taken) (s .pre .1) (k .inv .1) (e .last .0) (e .result) (e .ensures), s .good .0 .0)
 
--- src/write.rt:86:9
 add-s : tie.Need-add-s Inv-loop μ-loop
 add-s c = search needs
 
--- src/write.rt:83:5
 loop-less : tie.Need-loop-less Inv-loop μ-loop
 loop-less c = search needs
 
--- src/write.rt:83:5
 loop-again : tie.Need-loop-again Inv-loop μ-loop
 unfolding subsystemAt
-loop-again c = (search needs, list-goes-on subsystemBytes (subsystemAt (c .before .before .before .before .before .before .before .before .args .t2)) (c .before .before .before .before .before .before .before .before .args .free .now) (c .before .before .before .before .before .before .before .before .args .t2 .count) (c .before .before .before .before .before .before .loop .s) (c .before .before .before .before .before .before .loop .at) (c .before .before .before .before .before .before .loop .free) (c .before .before .before .before .before .loop-test .taken) (c .before .before .before .before .before .before .before .before .pre .1) (c .before .before .before .before .before .before .loop .inv .1) (c .before .before .put-subsystem .last .0) (c .before .before .put-subsystem .result) (c .before .before .put-subsystem .ensures))
+loop-again c =
+    let s = c .before .before .before .before .before .before .before .before in
+    let k = c .before .before .before .before .before .before .loop in
+    let e = c .before .before .put-subsystem in
+    (search needs, list-goes-on subsystemBytes (subsystemAt (s .args .t2)) (s .args .free .now) (s .args .t2 .count) (k .s) (k .at) (k .free) (c .before .before .before .before .before .loop-test .taken) (s .pre .1) (k .inv .1) (e .last .0) (e .result) (e .ensures))
 
--- src/write.rt:74:1
 same-length : tie.Need-same-length Inv-loop μ-loop
-same-length c = put-keeps-length (c .before .before .before .args .free .now) _ (c .before .loop .free) (c .before .loop .at) (list-ends subsystemBytes (subsystemAt (c .before .before .before .args .t2)) (c .before .before .before .args .free .now) (c .before .before .before .args .t2 .count) (c .before .loop .s) (c .before .loop .at) (c .before .loop .free) (c .before .loop .inv .0) (c .loop-test .left) (c .before .loop .inv .1)) (c .before .before .before .pre .1)
+same-length c =
+    let s = c .before .before .before in
+    let k = c .before .loop in
+    put-keeps-length (s .args .free .now) _ (k .free) (k .at) (list-ends subsystemBytes (subsystemAt (s .args .t2)) (s .args .free .now) (s .args .t2 .count) (k .s) (k .at) (k .free) (k .inv .0) (c .loop-test .left) (k .inv .1)) (s .pre .1)
 
--- src/write.rt:74:1
 returns : tie.Need-returns Inv-loop μ-loop
-returns c = list-ends subsystemBytes (subsystemAt (c .before .before .before .args .t2)) (c .before .before .before .args .free .now) (c .before .before .before .args .t2 .count) (c .before .loop .s) (c .before .loop .at) (c .before .loop .free) (c .before .loop .inv .0) (c .loop-test .left) (c .before .loop .inv .1)
+returns c =
+    let s = c .before .before .before in
+    let k = c .before .loop in
+    list-ends subsystemBytes (subsystemAt (s .args .t2)) (s .args .free .now) (s .args .t2 .count) (k .s) (k .at) (k .free) (k .inv .0) (c .loop-test .left) (k .inv .1)
 
 pub put-subsystems-spec : {M : Type 1} → statement M
 put-subsystems-spec =
