@@ -23,6 +23,11 @@ use stored::number::put_number;
 use table::Table;
 use text::response;
 
+// How many figures stand before the rows, and in a row.
+pub const HEAD_COUNT: usize = 5;
+
+pub const ROW_COUNT: usize = 9;
+
 // An outcome as a number.
 fn outcome_number(outcome: Outcome) -> u32
     ensures { λ r. ⌜ r ≡ outcomeNumber outcome ⌝ }

@@ -9,3 +9,4 @@ pub mod ShapeLaws
 pub mod RowShape
 pub mod TextShape
 pub mod BufferLaws
+pub mod Examples

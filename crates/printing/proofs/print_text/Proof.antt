@@ -25,20 +25,22 @@ enum-known-printed c = search needs
 -- src/lib.rt:12:38
 array-share-prefix-buf : tie.Need-array-share-prefix-buf
 array-share-prefix-buf c =
-    omega
-    (arith,
-    printed-within _ _ _ _ (c .before .before .before .before .check-text .ensures .answered) (c .before .printed .given .1),
-    c .before .before .before .before .check-text .kept .1 .0)
+    omega (
+      arith,
+      printed-within _ _ _ _ (c .before .before .before .before .check-text .ensures .answered) (c .before .printed .given .1),
+      c .before .before .before .before .check-text .kept .1 .0,
+    )
 
 -- src/lib.rt:12:38
 slice-aggregate-write-all : tie.Need-slice-aggregate-write-all
 slice-aggregate-write-all c =
     sym
     (length-take-le _ _
-    (omega
-    (arith,
-    printed-within _ _ _ _ (c .before .before .before .before .before .check-text .ensures .answered) (c .before .before .printed .given .1),
-    c .before .before .before .before .before .check-text .kept .1 .0)))
+    (omega (
+      arith,
+      printed-within _ _ _ _ (c .before .before .before .before .before .check-text .ensures .answered) (c .before .before .printed .given .1),
+      c .before .before .before .before .before .check-text .kept .1 .0,
+    )))
 
 -- src/lib.rt:12:9
 write-all-requires : tie.Need-write-all-requires

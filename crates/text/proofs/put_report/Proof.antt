@@ -1,4 +1,5 @@
 use native.Mathlib.Omega.{arith}
+use Prim.Native.Nat.{_*_}
 use borrow.Author.Needs.{needs}
 use Rattle.table.specs.Limits.{most}
 use Rattle.text.specs.Lines.{verdict}
@@ -45,7 +46,7 @@ put-verdict-requires c κs = search needs
 -- src/lib.rt:68:5
 put-rows-requires : tie.Need-put-rows-requires
 put-rows-requires c κs =
-    (c .before .before .before .before .before .before .before .before .before .pre .0 (c .before .before .before .before .before .before .enum-told .given .1), omega (arith, run-room 1280 (omega (arith, c .before .before .before .before .before .before .before .before .before .pre .1)) (behind-verdict (c .before .before .before .before))))
+    (c .before .before .before .before .before .before .before .before .before .pre .0 (c .before .before .before .before .before .before .enum-told .given .1), omega (arith, run-room (most * lineMost) (omega (arith, c .before .before .before .before .before .before .before .before .before .pre .1)) (behind-verdict (c .before .before .before .before))))
 
 -- src/lib.rt:58:1
 same-length-2 : tie.Need-same-length-2

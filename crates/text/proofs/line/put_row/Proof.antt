@@ -1,6 +1,7 @@
 use native.Mathlib.Omega.{arith}
 use borrow.Author.Needs.{needs}
 use Rattle.text.specs.Lines.{rowStart, rowLine}
+use Rattle.text.specs.Room.{startMost, endMost}
 use Rattle.text.proofs.WroteLaws.{Run, run-on, run-room}
 use Rattle.text.proofs.LineLaws.{rowStart-most, rowEnd-most}
 use Rattle.text.proofs.line.put_row.Statement.{statement}
@@ -10,7 +11,7 @@ use Rattle.text.proofs.line.put_row.Lts as lts
 use Rattle.text.proofs.line.put_row_end.Reads as put-row-end-reads
 use Rattle.text.proofs.line.put_row_start.Reads as put-row-start-reads
 
-behind-start : (c : tie.After-put-row-start) → Run (c .before .before .before .args .buf .now) (c .before .before .before .args .at) 80 (rowStart (c .before .before .before .args .s) (c .before .before .before .args .row)) (c .put-row-start .last .0) (c .put-row-start .result)
+behind-start : (c : tie.After-put-row-start) → Run (c .before .before .before .args .buf .now) (c .before .before .before .args .at) startMost (rowStart (c .before .before .before .args .s) (c .before .before .before .args .row)) (c .put-row-start .last .0) (c .put-row-start .result)
 behind-start c = record { writes = c .put-row-start .ensures; small = rowStart-most (c .before .before .before .args .s) (c .before .before .before .args .row) }
 
 -- src/line.rt:81:9
@@ -19,7 +20,7 @@ put-row-start-requires c κs = search needs
 
 -- src/line.rt:82:5
 put-row-end-requires : tie.Need-put-row-end-requires
-put-row-end-requires c κs = omega (arith, run-room 80 (omega (arith, c .before .before .before .before .before .before .pre .1)) (behind-start (c .before .before .before)))
+put-row-end-requires c κs = omega (arith, run-room endMost (omega (arith, c .before .before .before .before .before .before .pre .1)) (behind-start (c .before .before .before)))
 
 -- src/line.rt:77:1
 same-length : tie.Need-same-length
