@@ -4,3 +4,4 @@ pub mod FigureLaws
 pub mod JudgementLaws
 pub mod LentLaws
 pub mod CountLaws
+pub mod ReadCounts
