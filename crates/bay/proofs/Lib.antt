@@ -5,3 +5,4 @@ pub mod JudgementLaws
 pub mod LentLaws
 pub mod CountLaws
 pub mod ReadCounts
+pub mod CallerLaws
