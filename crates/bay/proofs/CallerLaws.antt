@@ -1,11 +1,11 @@
 -- What a foreign caller may rely on, beside what each contract says: when a number is 0, and what is written back.
 -- Assumes nothing.
-use Prim.Native.Nat.{ℕ, zero, _+_, _≤_, _<_}
+use Prim.Native.Nat.{ℕ, _≤_, _<_}
 use native.Mathlib.Omega.{arith}
 use borrow.Author.Tests.{lt-ltb, le-ltb}
-use mathlib.Core.Path.{_≡_, refl, sym, ap, _∙_}
+use mathlib.Core.Path.{_≡_, refl, ap}
 use mathlib.Core.Logic.{_↔_}
-use mathlib.Core.List.{List, [], _∷_, _++_}
+use mathlib.Core.List.{List, [], _∷_}
 use lib.ListN.{length, length-append}
 use Rattle.table.specs.Meaning.{System, meaning}
 use Rattle.rules.specs.declared.Rule.{Rule}
@@ -20,7 +20,7 @@ use Rattle.stored.specs.declared.ReadAnswer.the-variants.{Whole, Refused as Ref
 use Rattle.stored.specs.Numbers.{AreBytes}
 use Rattle.stored.specs.File.{fileOf}
 use Rattle.stored.specs.Read.{readOf}
-use Rattle.stored.specs.Write.{written, countsJudged, writeOf, bufferAfter}
+use Rattle.stored.specs.Write.{written, writeOf, bufferAfter}
 use Rattle.stored.proofs.RoundTrips.{read-file-is-the-file}
 use Rattle.text.specs.Text.{textOf}
 use Rattle.text.specs.Room.{textRoom}
@@ -28,7 +28,7 @@ use Rattle.text.specs.Shape.{LF}
 use Rattle.text.proofs.BufferLaws.{length-is-answered}
 use Rattle.text.proofs.TextShape.{text-ends-in-LF}
 use Rattle.bay.specs.Judgement.{tableJudgement, judgementFor, judgementOf}
-use Rattle.bay.specs.Lent.{printedBy, textSize, rewriteFor, rewriteLeft, rewriteOf, rewriteAfter}
+use Rattle.bay.specs.Lent.{printedBy, textSize, rewriteOf, rewriteAfter}
 use Rattle.bay.proofs.ReadCounts.{read-counts-pass}
 
 ------------------------------------------------------------------------

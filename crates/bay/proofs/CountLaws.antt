@@ -1,6 +1,5 @@
 -- How many figures a file's report has, whatever the file: five, and nine for each of eight rows. Assumes nothing.
 use Prim.Native.Nat.{ℕ, _+_, _*_}
-use native.Mathlib.Omega.{arith}
 use mathlib.Core.Path.{_≡_, refl, ap, ap₂, _∙_}
 use mathlib.Core.Bool.{Bool}
 use mathlib.Core.List.{List, flatMap}

@@ -1,7 +1,7 @@
 -- A list is the list of its elements: what a loop that puts element by element needs. Assumes nothing.
-use Prim.Native.Nat.{ℕ, _*_, _≤_, _<_}
+use Prim.Native.Nat.{ℕ, _*_, _≤_}
 use native.Mathlib.Omega.{arith}
-use mathlib.Core.Path.{_≡_, refl, sym, ap, _∙_}
+use mathlib.Core.Path.{_≡_, ap}
 use mathlib.Core.List.{List, flatMap}
 use lib.ListN.{length, getD}
 use lib.Seq.{ext-getD}

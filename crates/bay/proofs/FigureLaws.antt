@@ -1,13 +1,12 @@
 -- Laws of a report's figures: how many they are, that numbers put in a row are a row's or a head's, and that figures put row
 -- by row are all figures. Assumes nothing.
-use Prim.Native.Nat.{ℕ, zero, suc, _+_, _*_, _≤_, _<_}
+use Prim.Native.Nat.{ℕ, _+_, _*_, _≤_}
 use native.Mathlib.Omega.{arith}
 use mathlib.Core.Path.{_≡_, refl, sym, ap, ap₂, _∙_}
-use mathlib.Core.Bool.{Bool, true, false}
+use mathlib.Core.Bool.{Bool}
 use mathlib.Core.List.{List, [], _∷_, _++_, flatMap}
-use lib.ListN.{length, length-append}
+use lib.ListN.{length}
 use Rattle.lists.specs.Range.{upTo}
-use Rattle.table.specs.Limits.{most}
 use Rattle.global.specs.declared.Row.{Row}
 use Rattle.global.specs.Row.{reported}
 use Rattle.report.specs.declared.Report.{Report}
@@ -20,7 +19,7 @@ use Rattle.stored.proofs.WriteSteps.{put-the-same}
 use Rattle.bay.specs.declared.Judgement.{Judgement}
 use Rattle.bay.specs.Judgement.{tableJudgement}
 use Rattle.bay.specs.Figures.{outcomeNumber, flag, rowFigures, headFigures, figures, counted, figuresOf}
-use Rattle.bay.specs.Lent.{headCount, rowCount, reportSize, placeSize, placeBytes}
+use Rattle.bay.specs.Lent.{headCount, rowCount, placeSize, placeBytes}
 use Rattle.bay.proofs.Elements.{elementAt, all-elements}
 
 ------------------------------------------------------------------------

@@ -1,9 +1,8 @@
 -- What each function returns and leaves in the lent buffer, by the cases that its code tells apart. Assumes nothing.
 use Prim.Native.Nat.{ℕ, _≤_, _<_}
-use native.Mathlib.Omega.{arith}
 use mathlib.Core.Path.{_≡_, refl, sym, ap, ap₂, _∙_}
-use mathlib.Core.Bool.{Bool, true, false, cond}
-use mathlib.Core.List.{List, flatMap}
+use mathlib.Core.Bool.{false}
+use mathlib.Core.List.{List}
 use lib.ListN.{length, replicate}
 use borrow.Author.Tests.{lt-ltb, le-ltb}
 use Rattle.table.specs.Limits.{most}
@@ -19,10 +18,8 @@ use Rattle.stored.specs.declared.ReadAnswer.{ReadAnswer}
 use Rattle.stored.specs.declared.ReadAnswer.the-variants.{Whole, Refused}
 use Rattle.stored.specs.declared.Reading.{Reading}
 use Rattle.stored.specs.declared.WriteAnswer.{WriteAnswer}
-use Rattle.stored.specs.File.{numberBytes}
 use Rattle.stored.specs.Read.{fileRefusal, readOf}
-use Rattle.stored.specs.Write.{IsPut, written, writeOf, bufferAfter}
-use Rattle.stored.proofs.WriteSteps.{put-the-same}
+use Rattle.stored.specs.Write.{IsPut, writeOf, bufferAfter}
 use Rattle.text.specs.declared.Printed.{Printed}
 use Rattle.text.specs.Text.{IsPrinted}
 use Rattle.bay.specs.declared.Judgement.{Judgement}

@@ -6,3 +6,4 @@ pub mod LentLaws
 pub mod CountLaws
 pub mod ReadCounts
 pub mod CallerLaws
+pub mod OffsetLaws

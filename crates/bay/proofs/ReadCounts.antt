@@ -1,17 +1,17 @@
 -- A table that is read has counts in range: rule 1 passes it, so that it is written back wherever there is room.
 -- Assumes nothing.
-use Prim.Native.Nat.{ℕ, zero, suc, _+_, _≤_, _<_}
+use Prim.Native.Nat.{ℕ, zero, suc, _≤_, _<_}
 use native.Mathlib.Nat.{le-refl}
 use native.Mathlib.Numerals.{add-one}
 use native.Mathlib.Omega.{arith}
 use borrow.Author.Tests.{leb-true, not-true}
 use mathlib.Core.Path.{_≡_, refl, sym, ap, _∙_}
-use mathlib.Core.Bool.{Bool, true, false, not, _&&_}
+use mathlib.Core.Bool.{true, false, not, _&&_}
 use mathlib.Core.Option.{none}
 use mathlib.Core.List.{List}
 use lib.Dec.{leb, eqb}
 use lib.ListN.{getD, drop}
-use Rattle.lists.specs.Range.{firstOf, padded}
+use Rattle.lists.specs.Range.{firstOf}
 use Rattle.lists.proofs.First.{firstOf-none}
 use Rattle.lists.proofs.UpTo.{getD-padded}
 use Rattle.table.specs.Limits.{most}
@@ -21,7 +21,7 @@ use Rattle.table.specs.declared.Subsystem.{Subsystem}
 use Rattle.table.specs.declared.Table.{Table}
 use Rattle.rules.specs.declared.Rule.the-variants.{Counts}
 use Rattle.rules.specs.declared.Judged.the-variants.{Admitted}
-use Rattle.rules.specs.Rules.{countOut, judgedBy}
+use Rattle.rules.specs.Rules.{countOut}
 use Rattle.rules.proofs.JudgingLaws.{OffendersFrom, offenders-from-zero, offenders-over, passed-here, nowhere-of-counts}
 use Rattle.stored.specs.declared.ReadAnswer.the-variants.{Whole}
 use Rattle.stored.specs.Field.{valueOf, headerTag, headerLength, subsystemTag, subsystemLength, version}

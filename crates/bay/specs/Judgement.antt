@@ -3,7 +3,7 @@ use Prim.Native.Nat.{ℕ}
 use mathlib.Core.List.{List}
 use Rattle.table.specs.Meaning.{System, meaning}
 use Rattle.rules.specs.declared.Judged.{Judged}
-use Rattle.rules.specs.Refusal.{Refusal, refusal}
+use Rattle.rules.specs.Refusal.{refusal}
 use Rattle.rules.specs.Rules.{judgeOf}
 use Rattle.stored.specs.declared.FileRefusal.{FileRefusal}
 use Rattle.stored.specs.declared.ReadAnswer.{ReadAnswer}

@@ -1,4 +1,6 @@
-use mathlib.Core.Path.{ap, sym, _∙_}
+-- `bay::bay_judge` meets its contract, for a buffer that is too short for the place and for one that is not. Assumes
+-- nothing.
+use mathlib.Core.Path.{ap, _∙_}
 use Rattle.bay.specs.declared.Judgement.{Judgement}
 use Rattle.bay.specs.Lent.{lent, placeSize, placeBytes, placeAfter}
 use Rattle.bay.proofs.LentLaws.{too-short, long-enough}
@@ -6,16 +8,10 @@ use Rattle.bay.proofs.FigureLaws.{length-placeBytes}
 use borrow.Author.Needs.{needs}
 use Rattle.bay.proofs.bay_judge.Statement.{statement}
 use Rattle.bay.proofs.bay_judge.Tie as tie
-use Rattle.bay.proofs.bay_judge.Reads as reads
-use Rattle.bay.proofs.bay_judge.Lts as lts
-use Rattle.bay.proofs.figures.put_place.Reads as put-place-reads
-use Rattle.bay.proofs.judging.judge_file.Reads as judge-file-reads
 
--- src/lib.rt:52:9
 judge-file-requires : tie.Need-judge-file-requires
 judge-file-requires c κs = search needs
 
--- src/lib.rt:54:9
 returns : tie.Need-returns
 unfolding placeAfter
 returns c =
@@ -24,15 +20,12 @@ returns c =
       too-short placeSize _ (a .place .now) (c .if1 .taken) .1,
     )
 
--- src/lib.rt:56:5
 put-place-requires : tie.Need-put-place-requires
 put-place-requires c κs = search needs
 
--- src/lib.rt:47:1
 same-length : tie.Need-same-length
 same-length c = search needs
 
--- src/lib.rt:47:1
 returns-2 : tie.Need-returns-2
 unfolding placeAfter
 returns-2 c =

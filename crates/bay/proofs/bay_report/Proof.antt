@@ -1,3 +1,4 @@
+-- `bay::bay_report` meets its contract, for a buffer that is too short and for one that is not. Assumes nothing.
 use mathlib.Core.List.{flatMap}
 use Rattle.stored.specs.File.{numberBytes}
 use Rattle.bay.specs.Figures.{figuresIn}
@@ -7,26 +8,19 @@ use Rattle.bay.proofs.CountLaws.{length-of-file-figures}
 use borrow.Author.Needs.{needs}
 use Rattle.bay.proofs.bay_report.Statement.{statement}
 use Rattle.bay.proofs.bay_report.Tie as tie
-use Rattle.bay.proofs.bay_report.Reads as reads
-use Rattle.bay.proofs.bay_report.Lts as lts
-use Rattle.bay.proofs.figures.put_file.Reads as put-file-reads
 
--- src/lib.rt:68:9
 returns : tie.Need-returns
 unfolding figuresAfter
 returns c =
     let a = c .before .before .before .args in
     too-short reportSize (flatMap numberBytes (figuresIn (a .file .now))) (a .buf .now) (c .if1 .taken)
 
--- src/lib.rt:70:5
 put-file-requires : tie.Need-put-file-requires
 put-file-requires c κs = search needs
 
--- src/lib.rt:62:1
 same-length : tie.Need-same-length
 same-length c = search needs
 
--- src/lib.rt:62:1
 returns-2 : tie.Need-returns-2
 unfolding figuresAfter
 returns-2 c =

@@ -1,43 +1,32 @@
+-- `bay::bay_rewrite` meets its contract, for a file that is refused and for one that is a table. Assumes nothing.
 use Rattle.bay.proofs.LentLaws.{refused-rewrite, read-rewrite}
 use borrow.Author.Needs.{needs}
 use Rattle.bay.proofs.bay_rewrite.Statement.{statement}
 use Rattle.bay.proofs.bay_rewrite.Tie as tie
-use Rattle.bay.proofs.bay_rewrite.Reads as reads
-use Rattle.bay.proofs.bay_rewrite.Lts as lts
-use Rattle.bay.proofs.put_by.Reads as put-by-reads
-use Rattle.stored.proofs.read_table.Reads as read-table-reads
-use Rattle.stored.proofs.write_table.Reads as write-table-reads
 
--- src/lib.rt:76:9
 read-table-requires : tie.Need-read-table-requires
 read-table-requires c κs = search needs
 
 enum-told : tie.Need-enum-told
 enum-told c = search needs
 
--- src/lib.rt:79:9
 enum-told-2 : tie.Need-enum-told-2
 enum-told-2 c = search needs
 
--- src/lib.rt:79:9
 returns : tie.Need-returns
 returns c =
     let a = c .before .before .before .before .before .args in
     refused-rewrite (a .file .now) _ (c .before .before .read-table .ensures) (a .buf .now) _ _ (c .enum-told2 .given .1)
 
--- src/lib.rt:82:12
 write-table-requires : tie.Need-write-table-requires
 write-table-requires c κs = search needs
 
--- src/lib.rt:82:5
 put-by-requires : tie.Need-put-by-requires
 put-by-requires c κs = search needs
 
--- src/lib.rt:71:1
 same-length : tie.Need-same-length
 same-length c = search needs
 
--- src/lib.rt:71:1
 returns-2 : tie.Need-returns-2
 returns-2 c =
     let a = c .before .before .before .before .before .before .before .before .before .before .before .args in

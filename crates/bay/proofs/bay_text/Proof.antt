@@ -1,25 +1,18 @@
+-- `bay::bay_text` meets its contract: it answers what the text's own function does. Assumes nothing.
 use Rattle.bay.proofs.LentLaws.{text-is-printed}
 use borrow.Author.Needs.{needs}
 use Rattle.bay.proofs.bay_text.Statement.{statement}
 use Rattle.bay.proofs.bay_text.Tie as tie
-use Rattle.bay.proofs.bay_text.Reads as reads
-use Rattle.bay.proofs.bay_text.Lts as lts
-use Rattle.bay.proofs.printed_by.Reads as printed-by-reads
-use Rattle.text.proofs.check_text.Reads as check-text-reads
 
--- src/lib.rt:38:16
 check-text-requires : tie.Need-check-text-requires
 check-text-requires c κs = search needs
 
--- src/lib.rt:38:5
 printed-by-requires : tie.Need-printed-by-requires
 printed-by-requires c κs = search needs
 
--- src/lib.rt:33:1
 same-length : tie.Need-same-length
 same-length c = search needs
 
--- src/lib.rt:33:1
 returns : tie.Need-returns
 returns c =
     let a = c .before .before .before .before .before .before .before .args in

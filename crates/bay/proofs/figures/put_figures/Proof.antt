@@ -1,3 +1,4 @@
+-- `bay::figures::put_figures` meets its contract: the rows are put behind the head. Assumes nothing.
 use Prim.Native.Nat.{_*_}
 use mathlib.Core.Path.{_≡_}
 use lib.ListN.{length}
@@ -10,41 +11,31 @@ use native.Mathlib.Omega.{arith}
 use borrow.Author.Needs.{needs}
 use Rattle.bay.proofs.figures.put_figures.Statement.{statement}
 use Rattle.bay.proofs.figures.put_figures.Tie as tie
-use Rattle.bay.proofs.figures.put_figures.Reads as reads
-use Rattle.bay.proofs.figures.put_figures.Lts as lts
-use Rattle.bay.proofs.figures.put_head.Reads as put-head-reads
-use Rattle.bay.proofs.figures.put_rows.Reads as put-rows-reads
 
--- src/figures.rt:115:9
 put-head-requires : tie.Need-put-head-requires
 put-head-requires c κs = search needs
 
--- src/figures.rt:116:20
 sub-put-rows : tie.Need-sub-put-rows
 sub-put-rows c =
     let a = c .before .before .before .before .before .args in
     let h = c .before .before .put-head in
     free-starts-within (a .free .now) _ (h .last .0) (h .result) (h .ensures) (numberSize * headCount) (most * (numberSize * rowCount)) (length-headBytes (a .j) (a .accepted) (a .n)) (c .before .before .before .before .before .pre)
 
--- src/figures.rt:116:20
 part-put-rows-start : tie.Need-part-put-rows-start
 part-put-rows-start c =
     let a = c .before .before .before .before .before .args in
     let h = c .before .before .put-head in
     free-starts-within (a .free .now) _ (h .last .0) (h .result) (h .ensures) (numberSize * headCount) (most * (numberSize * rowCount)) (length-headBytes (a .j) (a .accepted) (a .n)) (c .before .before .before .before .before .pre)
 
--- src/figures.rt:116:20
 part-put-rows-end : tie.Need-part-put-rows-end
 part-put-rows-end c = search needs
 
--- src/figures.rt:116:11
 put-rows-requires : tie.Need-put-rows-requires
 put-rows-requires c κs =
     let a = c .before .before .before .before .before .before .args in
     let h = c .before .before .before .put-head in
     free-has-room (a .free .now) _ (h .last .0) (h .result) (h .ensures) (numberSize * headCount) (most * (numberSize * rowCount)) (length-headBytes (a .j) (a .accepted) (a .n)) (c .before .before .before .before .before .before .pre)
 
--- src/figures.rt:116:5
 add-at : tie.Need-add-at
 add-at c =
     let a = c .before .before .before .before .before .before .before .before .before .args in
@@ -57,11 +48,9 @@ add-at c =
       c .before .before .before .before .before .before .before .before .before .good .0 .0,
     )
 
--- src/figures.rt:111:1
 same-length : tie.Need-same-length
 same-length c = search needs
 
--- src/figures.rt:111:1
 returns : tie.Need-returns
 returns c =
     let a = c .before .before .before .before .before .before .before .before .before .args in

@@ -1,3 +1,4 @@
+-- `bay::figures::put_file` meets its contract, for a file that is refused and for one that is a table. Assumes nothing.
 use Rattle.text.proofs.OffsetLaws.{offset-fits}
 use mathlib.Core.Path.{ap}
 use mathlib.Core.List.{flatMap}
@@ -7,49 +8,32 @@ use Rattle.bay.proofs.LentLaws.{refused-figures, read-figures}
 use borrow.Author.Needs.{needs}
 use Rattle.bay.proofs.figures.put_file.Statement.{statement}
 use Rattle.bay.proofs.figures.put_file.Tie as tie
-use Rattle.bay.proofs.figures.put_file.Reads as reads
-use Rattle.bay.proofs.figures.put_file.Lts as lts
-use Rattle.bay.proofs.figures.put_figures.Reads as put-figures-reads
-use Rattle.bay.proofs.figures.put_report.Reads as put-report-reads
-use Rattle.bay.proofs.judging.file_judgement.Reads as file-judgement-reads
-use Rattle.report.proofs.analyse.Reads as analyse-reads
-use Rattle.report.proofs.rows.no_row.Reads as no-row-reads
-use Rattle.stored.proofs.file_refusal.Reads as file-refusal-reads
-use Rattle.stored.proofs.read_table.Reads as read-table-reads
 
--- src/figures.rt:146:9
 read-table-requires : tie.Need-read-table-requires
 read-table-requires c κs = search needs
 
 enum-told : tie.Need-enum-told
 enum-told c = search needs
 
--- src/figures.rt:149:32
 enum-told-2 : tie.Need-enum-told-2
 enum-told-2 c = search needs
 
--- src/figures.rt:149:32
 file-refusal-requires : tie.Need-file-refusal-requires
 file-refusal-requires c κs = search needs
 
--- src/figures.rt:149:13
 file-judgement-requires : tie.Need-file-judgement-requires
 file-judgement-requires c κs =
     offset-fits (c .before .before .before .before .before .before .args .file .now) _ _ (c .before .before .before .read-table .ensures) (c .file-refusal .ensures)
 
--- src/figures.rt:150:48
 no-row-requires : tie.Need-no-row-requires
 no-row-requires c κs = search needs
 
--- src/figures.rt:150:9
 put-figures-requires : tie.Need-put-figures-requires
 put-figures-requires c κs = search needs
 
--- src/figures.rt:150:9
 same-length : tie.Need-same-length
 same-length c = search needs
 
--- src/figures.rt:150:9
 returns : tie.Need-returns
 returns c =
     let a = c .before .before .before .before .before .before .before .before .before .before .before .before .args in
@@ -57,19 +41,15 @@ returns c =
     (ap (flatMap numberBytes) (refused-figures (a .file .now) _ (c .before .before .before .before .before .before .before .before .before .read-table .ensures) _ _ _ _ _ (c .before .before .before .before .before .before .before .enum-told2 .given .1) (c .before .before .before .before .before .before .file-refusal .ensures) (c .before .before .before .before .before .file-judgement .ensures) (c .before .before .before .no-row .ensures)))
     (c .before .before .put-figures .ensures)
 
--- src/figures.rt:153:22
 analyse-requires : tie.Need-analyse-requires
 analyse-requires c κs = search needs
 
--- src/figures.rt:153:5
 put-report-requires : tie.Need-put-report-requires
 put-report-requires c κs = search needs
 
--- src/figures.rt:142:1
 same-length-2 : tie.Need-same-length-2
 same-length-2 c = search needs
 
--- src/figures.rt:142:1
 returns-2 : tie.Need-returns-2
 returns-2 c =
     let a = c .before .before .before .before .before .before .before .before .before .before .before .args in

@@ -1,3 +1,4 @@
+-- `bay::figures::put_numbers` meets its contract. The loop's invariant: the first i numbers are put. Assumes nothing.
 use Prim.Native.Nat.{_≤_, _-_}
 use mathlib.Core.List.{flatMap}
 use lib.ListN.{length}
@@ -12,9 +13,6 @@ use borrow.Author.Needs.{needs}
 use native.Mathlib.Omega.{arith}
 use Rattle.bay.proofs.figures.put_numbers.Statement.{statement}
 use Rattle.bay.proofs.figures.put_numbers.Tie as tie
-use Rattle.bay.proofs.figures.put_numbers.Reads as reads
-use Rattle.bay.proofs.figures.put_numbers.Lts as lts
-use Rattle.stored.proofs.number.put_number.Reads as put-number-reads
 
 abbrev Inv-loop : tie.InvT-loop
 Inv-loop free₀ numbers at₀ i₀ free at i = (i ≤ length numbers) × IsPut (flatMap numberBytes (upTo (elementAt 0 numbers) i)) free₀ free at
@@ -22,44 +20,36 @@ Inv-loop free₀ numbers at₀ i₀ free at i = (i ≤ length numbers) × IsPut 
 abbrev μ-loop : tie.MeasureT-loop
 μ-loop free₀ numbers at₀ i₀ free at i = length numbers - i
 
--- src/figures.rt:44:5
 loop-holds : tie.Need-loop-holds Inv-loop μ-loop
 loop-holds c = (search needs, list-begins numberBytes (elementAt 0 (c .before .before .args .numbers .now)) (c .before .before .args .free .now))
 
--- src/figures.rt:45:17
 mul-x : tie.Need-mul-x Inv-loop μ-loop
 mul-x c = search needs
 
--- src/figures.rt:45:17
 shared-slice-read-x : tie.Need-shared-slice-read-x Inv-loop μ-loop
 shared-slice-read-x c = search needs
 
--- src/figures.rt:46:26
 sub-put-number : tie.Need-sub-put-number Inv-loop μ-loop
 sub-put-number c =
     let a = c .before .before .before .before .before .args in
     let w = c .before .before .loop in
     list-starts-within numberBytes (elementAt 0 (a .numbers .now)) (a .free .now) (length (a .numbers .now)) (w .i) (w .at) (w .free) (c .before .loop-test .taken) (numbers-have-room (a .numbers .now) (a .free .now) (c .before .before .before .before .before .pre)) (w .inv .1)
 
--- src/figures.rt:46:26
 part-put-number-start : tie.Need-part-put-number-start Inv-loop μ-loop
 part-put-number-start c =
     let a = c .before .before .before .before .before .args in
     let w = c .before .before .loop in
     list-starts-within numberBytes (elementAt 0 (a .numbers .now)) (a .free .now) (length (a .numbers .now)) (w .i) (w .at) (w .free) (c .before .loop-test .taken) (numbers-have-room (a .numbers .now) (a .free .now) (c .before .before .before .before .before .pre)) (w .inv .1)
 
--- src/figures.rt:46:26
 part-put-number-end : tie.Need-part-put-number-end Inv-loop μ-loop
 part-put-number-end c = search needs
 
--- src/figures.rt:46:15
 put-number-requires : tie.Need-put-number-requires Inv-loop μ-loop
 put-number-requires c κs =
     let a = c .before .before .before .before .before .before .args in
     let w = c .before .before .before .loop in
     list-has-room numberBytes (elementAt 0 (a .numbers .now)) (a .free .now) (length (a .numbers .now)) (w .i) (w .at) (w .free) (c .before .before .loop-test .taken) (numbers-have-room (a .numbers .now) (a .free .now) (c .before .before .before .before .before .before .pre)) (w .inv .1) numberSize (length-numberBytes (elementAt 0 (a .numbers .now) (w .i)))
 
--- src/figures.rt:46:9
 add-at : tie.Need-add-at Inv-loop μ-loop
 unfolding elementAt
 add-at c =
@@ -71,15 +61,12 @@ add-at c =
       c .before .before .before .before .before .before .before .before .before .good .0 .0,
     )
 
--- src/figures.rt:47:9
 add-i : tie.Need-add-i Inv-loop μ-loop
 add-i c = search needs
 
--- src/figures.rt:44:5
 loop-less : tie.Need-loop-less Inv-loop μ-loop
 loop-less c = search needs
 
--- src/figures.rt:44:5
 loop-again : tie.Need-loop-again Inv-loop μ-loop
 unfolding elementAt
 loop-again c =
@@ -89,14 +76,12 @@ loop-again c =
       list-goes-on numberBytes (elementAt 0 (a .numbers .now)) (a .free .now) (length (a .numbers .now)) (w .i) (w .at) (w .free) (c .before .before .before .before .before .loop-test .taken) (numbers-have-room (a .numbers .now) (a .free .now) (c .before .before .before .before .before .before .before .before .before .pre)) (w .inv .1) (c .before .before .put-number .last .0) (c .before .before .put-number .result) (c .before .before .put-number .ensures),
     )
 
--- src/figures.rt:38:1
 same-length : tie.Need-same-length Inv-loop μ-loop
 same-length c =
     let a = c .before .before .before .before .args in
     let w = c .before .loop in
     put-keeps-length (a .free .now) _ (w .free) (w .at) (list-ends numberBytes (elementAt 0 (a .numbers .now)) (a .free .now) (length (a .numbers .now)) (w .i) (w .at) (w .free) (w .inv .0) (c .loop-test .left) (w .inv .1)) (numbers-have-room (a .numbers .now) (a .free .now) (c .before .before .before .before .pre))
 
--- src/figures.rt:38:1
 returns : tie.Need-returns Inv-loop μ-loop
 returns c =
     let a = c .before .before .before .before .args in

@@ -1,3 +1,4 @@
+-- `bay::figures::put_rows` meets its contract. The loop's invariant: the first s rows are put. Assumes nothing.
 use Prim.Native.Nat.{_≤_, _*_, _-_}
 use mathlib.Core.Path.{_≡_}
 use mathlib.Core.List.{flatMap}
@@ -15,9 +16,6 @@ use borrow.Author.Needs.{needs}
 use native.Mathlib.Omega.{arith}
 use Rattle.bay.proofs.figures.put_rows.Statement.{statement}
 use Rattle.bay.proofs.figures.put_rows.Tie as tie
-use Rattle.bay.proofs.figures.put_rows.Reads as reads
-use Rattle.bay.proofs.figures.put_rows.Lts as lts
-use Rattle.bay.proofs.figures.put_row.Reads as put-row-reads
 
 abbrev Inv-loop : tie.InvT-loop
 Inv-loop free₀ rows at₀ s₀ free at s = (s ≤ most) × IsPut (flatMap rowBytes (upTo (elementAt pastRows rows) s)) free₀ free at
@@ -32,44 +30,36 @@ eight c = c .good .1 .0 .1 .0 .1
 room : (c : tie.Start Inv-loop μ-loop) → length (flatMap rowBytes (upTo (elementAt pastRows (c .args .t2)) most)) ≤ length (c .args .free .now)
 room c = rows-have-room (c .args .t2) most (eight c) (c .args .free .now) (omega (arith, c .pre))
 
--- src/figures.rt:102:5
 loop-holds : tie.Need-loop-holds Inv-loop μ-loop
 loop-holds c = (search needs, list-begins rowBytes (elementAt pastRows (c .before .args .t2)) (c .before .args .free .now))
 
--- src/figures.rt:103:19
 mul-row : tie.Need-mul-row Inv-loop μ-loop
 mul-row c = search needs
 
--- src/figures.rt:103:19
 array-copy-out-row : tie.Need-array-copy-out-row Inv-loop μ-loop
 array-copy-out-row c = search needs
 
--- src/figures.rt:104:23
 sub-put-row : tie.Need-sub-put-row Inv-loop μ-loop
 sub-put-row c =
     let a = c .before .before .before .before .args in
     let w = c .before .before .loop in
     list-starts-within rowBytes (elementAt pastRows (a .t2)) (a .free .now) most (w .s) (w .at) (w .free) (c .before .loop-test .taken) (room (c .before .before .before .before)) (w .inv .1)
 
--- src/figures.rt:104:23
 part-put-row-start : tie.Need-part-put-row-start Inv-loop μ-loop
 part-put-row-start c =
     let a = c .before .before .before .before .args in
     let w = c .before .before .loop in
     list-starts-within rowBytes (elementAt pastRows (a .t2)) (a .free .now) most (w .s) (w .at) (w .free) (c .before .loop-test .taken) (room (c .before .before .before .before)) (w .inv .1)
 
--- src/figures.rt:104:23
 part-put-row-end : tie.Need-part-put-row-end Inv-loop μ-loop
 part-put-row-end c = search needs
 
--- src/figures.rt:104:15
 put-row-requires : tie.Need-put-row-requires Inv-loop μ-loop
 put-row-requires c κs =
     let a = c .before .before .before .before .before .args in
     let w = c .before .before .before .loop in
     list-has-room rowBytes (elementAt pastRows (a .t2)) (a .free .now) most (w .s) (w .at) (w .free) (c .before .before .loop-test .taken) (room (c .before .before .before .before .before)) (w .inv .1) (numberSize * rowCount) (length-rowBytes (elementAt pastRows (a .t2) (w .s)))
 
--- src/figures.rt:104:9
 add-at : tie.Need-add-at Inv-loop μ-loop
 unfolding elementAt rowBytes
 add-at c =
@@ -81,15 +71,12 @@ add-at c =
       c .before .before .before .before .before .before .before .before .good .0 .0,
     )
 
--- src/figures.rt:105:9
 add-s : tie.Need-add-s Inv-loop μ-loop
 add-s c = search needs
 
--- src/figures.rt:102:5
 loop-less : tie.Need-loop-less Inv-loop μ-loop
 loop-less c = search needs
 
--- src/figures.rt:102:5
 loop-again : tie.Need-loop-again Inv-loop μ-loop
 unfolding elementAt rowBytes
 loop-again c =
@@ -99,14 +86,12 @@ loop-again c =
       list-goes-on rowBytes (elementAt pastRows (a .t2)) (a .free .now) most (w .s) (w .at) (w .free) (c .before .before .before .before .before .loop-test .taken) (room (c .before .before .before .before .before .before .before .before)) (w .inv .1) (c .before .before .put-row .last .0) (c .before .before .put-row .result) (c .before .before .put-row .ensures),
     )
 
--- src/figures.rt:96:1
 same-length : tie.Need-same-length Inv-loop μ-loop
 same-length c =
     let a = c .before .before .before .args in
     let w = c .before .loop in
     put-keeps-length (a .free .now) _ (w .free) (w .at) (list-ends rowBytes (elementAt pastRows (a .t2)) (a .free .now) most (w .s) (w .at) (w .free) (w .inv .0) (c .loop-test .left) (w .inv .1)) (room (c .before .before .before))
 
--- src/figures.rt:96:1
 returns : tie.Need-returns Inv-loop μ-loop
 returns c =
     let a = c .before .before .before .args in

@@ -1,36 +1,27 @@
+-- `bay::judging::table_judgement` meets its contract, by the cases of the judgement. Assumes nothing.
 use Rattle.bay.proofs.JudgementLaws.{admitted-judgement, refused-judgement}
 use borrow.Author.Needs.{needs}
 use Rattle.bay.proofs.judging.table_judgement.Statement.{statement}
 use Rattle.bay.proofs.judging.table_judgement.Tie as tie
-use Rattle.bay.proofs.judging.table_judgement.Reads as reads
-use Rattle.bay.proofs.judging.table_judgement.Lts as lts
-use Rattle.text.proofs.rule_number.Reads as rule-number-reads
 
--- src/judging.rt:27:29
 enum-told : tie.Need-enum-told
 enum-told c = search needs
 
--- src/judging.rt:32:25
 enum-known-judged : tie.Need-enum-known-judged
 enum-known-judged c = search needs
 
--- src/judging.rt:33:21
 rule-number-requires : tie.Need-rule-number-requires
 rule-number-requires c κs = search needs
 
--- src/judging.rt:34:20
 cast-t6 : tie.Need-cast-t6
 cast-t6 c = search needs
 
--- src/judging.rt:35:21
 cast-t7 : tie.Need-cast-t7
 cast-t7 c = search needs
 
--- src/judging.rt:23:1
 returns : tie.Need-returns
 returns c = admitted-judgement _ (c .enum-told .given .1)
 
--- src/judging.rt:23:1
 returns-2 : tie.Need-returns-2
 returns-2 c = refused-judgement _ _ _ _ (c .before .before .before .before .judged .given .1) (c .before .before .rule-number .ensures)
 
