@@ -19,9 +19,14 @@ use report::Report;
 use report::rows::no_row;
 use rules::Judged;
 use stored::ReadAnswer;
-use stored::put_number;
+use stored::number::put_number;
 use table::Table;
 use text::response;
+
+// How many figures stand before the rows, and in a row.
+pub const HEAD_COUNT: usize = 5;
+
+pub const ROW_COUNT: usize = 9;
 
 // An outcome as a number.
 fn outcome_number(outcome: Outcome) -> u32

@@ -8,6 +8,7 @@ ghost use Rattle.bay.specs.Judgement.{judgementOf};
 ghost use Rattle.bay.specs.Lent.{printedBy, textSize, placeAfter, reportSize, filled, figuresAfter, putBy, rewriteOf, rewriteAfter};
 use stored::ReadAnswer;
 use stored::WriteAnswer;
+use stored::number::NUMBER;
 use table::Table;
 use text::Printed;
 
@@ -22,11 +23,10 @@ pub struct Judgement {
     pub second: u32,
 }
 
-// How many bytes the place of a judgement takes: two numbers of four bytes.
-const PLACE_SIZE: usize = 2 * 4;
+// How many bytes the two numbers of a place take, and the figures of a report.
+const PLACE_SIZE: usize = 2 * NUMBER;
 
-// How many bytes the figures of a report take: five numbers, and nine for each row.
-const REPORT_SIZE: usize = 4 * (5 + Table::MOST * 9);
+const REPORT_SIZE: usize = NUMBER * (figures::HEAD_COUNT + Table::MOST * figures::ROW_COUNT);
 
 // The text of a file goes to the start of the buffer, and the rest of the buffer stays. The result is the number of bytes of
 // the text, or 0 where the buffer is shorter than 2,048 bytes, which is then as it was.

@@ -18,7 +18,6 @@ mod read;
 mod write;
 
 pub use held::table_is_held;
-pub use number::put_number;
 pub use read::read_table;
 pub use write::file_length;
 pub use write::write_table;

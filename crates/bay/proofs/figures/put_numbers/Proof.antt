@@ -14,7 +14,7 @@ use Rattle.bay.proofs.figures.put_numbers.Statement.{statement}
 use Rattle.bay.proofs.figures.put_numbers.Tie as tie
 use Rattle.bay.proofs.figures.put_numbers.Reads as reads
 use Rattle.bay.proofs.figures.put_numbers.Lts as lts
-use Rattle.stored.proofs.put_number.Reads as put-number-reads
+use Rattle.stored.proofs.number.put_number.Reads as put-number-reads
 
 abbrev Inv-loop : tie.InvT-loop
 Inv-loop free₀ numbers at₀ i₀ free at i = (i ≤ length numbers) × IsPut (flatMap numberBytes (upTo (elementAt 0 numbers) i)) free₀ free at
