@@ -29,12 +29,13 @@ accesses-are-held u l i h = rw (lt-ltb 0 (accessOf (taskOf u i) l) h) (omega ari
 
 -- X(s, l) is above 0 exactly when some task of s accesses l.
 pub held-exactly-when-accessed :
-  (u : SubsystemM) (l : ℕ) → (0 < resourceHolding u l) ↔ ((i : ℕ) × (i < taskCount u) × (0 < accessOf (taskOf u i) l))
+    (u : SubsystemM) (l : ℕ) → (0 < resourceHolding u l) ↔ ((i : ℕ) × (i < taskCount u) × (0 < accessOf (taskOf u i) l))
 unfolding resourceHolding
 held-exactly-when-accessed u l = (λ h. to h (largest-reached (taskHolding u l) (taskCount u)), fro)
   where
     to : 0 < largestTo (taskHolding u l) (taskCount u) → (largestTo (taskHolding u l) (taskCount u) ≡ 0) ⊎ ((i : ℕ) × (i < taskCount u) × (taskHolding u l i ≡ largestTo (taskHolding u l) (taskCount u))) → (i : ℕ) × (i < taskCount u) × (0 < accessOf (taskOf u i) l)
     to h (inl z) = absurd (omega arith)
     to h (inr r) = (r .0, r .1, holds-what-it-accesses u l (r .0) (omega (arith, r .2)))
+
     fro : ((i : ℕ) × (i < taskCount u) × (0 < accessOf (taskOf u i) l)) → 0 < largestTo (taskHolding u l) (taskCount u)
     fro r = omega (arith, below-largest (taskHolding u l) (taskCount u) (r .0) (r .1), accesses-are-held u l (r .0) (r .2))
