@@ -1,4 +1,6 @@
 // Figures as lines on standard output: a name, then the value or the values.
+ghost use mathlib.Core.Path.{_≡_};
+ghost use Rattle.rules.specs.Refusal.{numberOf};
 use global::Outcome;
 use global::Row;
 use libc::STDOUT_FILENO;
@@ -41,7 +43,9 @@ fn figure_and(r: u32, rest: &[u8]) {
 }
 
 // Document 01's number of a rule.
-fn rule_number(rule: Rule) -> u64 {
+fn rule_number(rule: Rule) -> u64
+    ensures { λ r. ⌜ r ≡ numberOf rule ⌝ }
+{
     match rule {
         Rule::Counts => 1,
         Rule::Range => 2,

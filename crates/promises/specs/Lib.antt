@@ -5,4 +5,5 @@ pub mod Demand2
 pub mod Demand3
 pub mod Files
 pub mod OneResult
+pub mod Accessed
 pub mod Figures

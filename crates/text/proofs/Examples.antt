@@ -1,12 +1,9 @@
 -- The lines that document 01 shows, as the definitions give them. Assumes nothing.
-use Prim.Native.Nat.{ℕ}
 use mathlib.Core.Path.{_≡_, refl}
 use mathlib.Core.Bool.{true}
-use mathlib.Core.List.{_++_}
 use Rattle.lines.specs.Decimal.{digitByte, digits, decimal}
 use Rattle.lines.specs.Words.{word}
-use Rattle.global.specs.declared.Outcome.the-variants.{Fits, Late}
-use Rattle.global.specs.declared.Row.{Row}
+use Rattle.global.specs.declared.Outcome.the-variants.{Fits}
 use Rattle.text.specs.Lines.{figure, refusedFile, refusedTable, verdict, rowStart, rowEnd, rowLine}
 
 -- Table A: its first row, its third, and the verdict.

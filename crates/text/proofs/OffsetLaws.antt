@@ -3,7 +3,7 @@ use Prim.Native.Nat.{ℕ, zero, suc, _+_, _*_, _≤_, _<_, _^_}
 use native.Mathlib.Nat.{mul-le-mul}
 use native.Mathlib.Omega.{arith}
 use borrow.Author.Tests.{leb-true}
-use mathlib.Core.Path.{_≡_, refl, sym, ap, _∙_}
+use mathlib.Core.Path.{_≡_, refl, ap, _∙_}
 use mathlib.Core.Bool.{Bool, true, false, not, cond, _&&_}
 use mathlib.Core.Option.{Option, none, some}
 use mathlib.Core.List.{List}
@@ -23,7 +23,6 @@ use Rattle.stored.specs.Judge.{headerInRange, subsystemInRange, judgeHeader, ju
 use Rattle.stored.specs.Decode.{decodedHeader, decodedSubsystem}
 use Rattle.stored.specs.File.{largestFile}
 use Rattle.stored.specs.Read.{Refusal, fileRefusal, wholeUnless, refusedAt, headerIn, headAt, taskPlace, placeBehind, subsystemPlace, taskRefusal, tasksRefusal, refusalFrom, subsystemRefusal, leftOver, bodyRefusal, refusalIn, readOf}
-use Rattle.stored.proofs.Judging.{SoundField}
 use Rattle.stored.proofs.ReadSubsystems.{count-in-range, and-left, and-right}
 use Rattle.stored.proofs.ReadWritten.{neither-refused, sound-where-unrefused}
 

@@ -1,9 +1,8 @@
 -- A row's line is words, with one space between each and the next, and one LF. Assumes nothing.
-use Prim.Native.Nat.{ℕ, suc, _+_, _<_}
+use Prim.Native.Nat.{ℕ, _+_}
 use native.Mathlib.Omega.{arith}
 use mathlib.Core.Path.{_≡_, refl, sym, ap, ap₂, _∙_}
 use mathlib.Core.List.{List, [], _∷_, _++_, append-assoc}
-use lib.ListN.{length}
 use Rattle.lines.specs.Decimal.{decimal}
 use Rattle.lines.specs.Words.{word}
 use Rattle.global.specs.declared.Outcome.{Outcome}

@@ -1,8 +1,8 @@
 -- The lines of the rows, one behind the other. Assumes nothing.
 use Prim.Native.Nat.{ℕ, _+_, _*_, _≤_, _<_}
 use native.Mathlib.Omega.{arith}
-use mathlib.Core.Path.{_≡_, refl, sym, ap, _∙_}
-use mathlib.Core.List.{List, []}
+use mathlib.Core.Path.{_≡_, sym}
+use mathlib.Core.List.{List}
 use lib.ListN.{length, getD}
 use Rattle.lists.specs.Range.{joinTo}
 use Rattle.lists.proofs.UpTo.{joinTo-zero, joinTo-suc, joinTo-at-most}

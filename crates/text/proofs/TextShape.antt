@@ -1,12 +1,11 @@
 -- What the text of every file is like: lines of words, no longer than the room that is asked for, and settled by the first
 -- 4,096 bytes. (That the numbers are decimal without leading zeros is in crate `lines`: decimal-value, decimal-lead.)
 -- Assumes nothing.
-use Prim.Native.Nat.{ℕ, zero, suc, _+_, _*_, _≤_, _<_}
+use Prim.Native.Nat.{ℕ, zero, suc, _+_, _≤_}
 use native.Mathlib.Omega.{arith}
-use mathlib.Core.Path.{_≡_, refl, sym, ap, ap₂, _∙_}
-use mathlib.Core.Bool.{Bool}
+use mathlib.Core.Path.{_≡_, refl, sym, ap}
 use mathlib.Core.List.{List, [], _∷_, _++_, append-assoc, append-nil}
-use lib.ListN.{length, getD, take, drop, length-append}
+use lib.ListN.{length, getD, take, length-append}
 use Rattle.lists.specs.Range.{joinTo}
 use Rattle.table.specs.Limits.{most}
 use Rattle.table.specs.Meaning.{System, meaning, MeanTheSame}
@@ -27,13 +26,13 @@ use Rattle.stored.specs.Read.{fileRefusal, readOf}
 use Rattle.stored.proofs.LongInput.{first-bytes-suffice}
 use Rattle.lines.specs.Words.{word}
 use Rattle.lines.proofs.DecimalLaws.{decimal-at-most-ten}
-use Rattle.text.specs.Lines.{figure, refusedFile, refusedTable, verdict, rowLine}
+use Rattle.text.specs.Lines.{figure, refusedFile, refusedTable, verdict}
 use Rattle.text.specs.Room.{lineMost, textRoom}
 use Rattle.text.specs.Shape.{LF, AreWords, parted, line, Lines, no-line, one-more}
 use Rattle.text.specs.Text.{slotLine, textFor, reportText, tableText, readText, textOf}
 use Rattle.text.proofs.RowsLaws.{lines-most}
 use Rattle.text.proofs.ReportLaws.{verdict-most}
-use Rattle.text.proofs.TextLaws.{judged-in-report, admitted-count}
+use Rattle.text.proofs.TextLaws.{admitted-count}
 use Rattle.text.proofs.ShapeLaws.{refusedFileWords, refusedFile-line, refusedFile-words, refusedTableWords, refusedTable-line, refusedTable-words, verdictWords, verdict-line, verdict-words}
 use Rattle.text.proofs.RowShape.{rowWords, rowLine-line, rowLine-words}
 

@@ -1,4 +1,5 @@
-// What `check` prints, as bytes in a lent buffer. Every function here is proved, and the crate assumes nothing of its own.
+// What `check` prints, as bytes in a lent buffer. Every function here is proved, and the crate assumes nothing of its own. The
+// one public function, `check_text`, has no `requires`.
 ghost use mathlib.Core.Path.{_≡_};
 ghost use Prim.Native.Nat.{_+_, _*_, _≤_};
 ghost use lib.ListN.{length};

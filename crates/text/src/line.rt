@@ -4,7 +4,6 @@ ghost use mathlib.Core.Path.{_≡_};
 ghost use mathlib.Core.List.{_++_};
 ghost use Prim.Native.Nat.{_+_, _≤_, _<_};
 ghost use lib.ListN.{length};
-ghost use Rattle.lines.specs.Written.{written};
 ghost use Rattle.lines.specs.Decimal.{decimal};
 ghost use Rattle.global.specs.Row.{reported};
 ghost use Rattle.table.specs.Limits.{most};

@@ -1,4 +1,3 @@
-use native.Mathlib.Omega.{arith}
 use Rattle.text.proofs.WroteLaws.{wrote-same}
 use Rattle.text.proofs.TextLaws.{count-if-admitted, text-of-table}
 use borrow.Author.Needs.{needs}
