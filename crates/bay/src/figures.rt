@@ -57,7 +57,7 @@ fn stated_count(judged: Judged, n: u8) -> u32
 }
 
 // Several numbers.
-pub fn put_numbers(free: &mut [u8], numbers: &[u32]) -> usize
+fn put_numbers(free: &mut [u8], numbers: &[u32]) -> usize
     requires { ⌜ numberSize * length (now numbers) ≤ length (now free) ⌝ }
     ensures { λ r. ⌜ IsPut (flatMap numberBytes (now (numbers .entry))) (now (free .entry)) (now (free .exit)) r ⌝ }
 {
@@ -116,7 +116,7 @@ fn put_rows(free: &mut [u8], rows: [Row; Table::MOST]) -> usize
 }
 
 // All figures.
-pub fn put_figures(
+fn put_figures(
     free: &mut [u8],
     j: Judgement,
     accepted: bool,
@@ -132,7 +132,7 @@ pub fn put_figures(
 }
 
 // The figures of a report on n subsystems.
-pub fn put_report(free: &mut [u8], report: Report, n: u8) -> usize
+fn put_report(free: &mut [u8], report: Report, n: u8) -> usize
     requires { ⌜ reportSize ≤ length (now free) ⌝ }
     ensures { λ r. ⌜ IsPut (flatMap numberBytes (figuresOf report n)) (now (free .entry)) (now (free .exit)) r ⌝ }
 {
