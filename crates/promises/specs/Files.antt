@@ -14,6 +14,7 @@ use Rattle.table.specs.declared.Table.{Table}
 use Rattle.table.specs.Zeros.{zeroTable}
 use Rattle.table.specs.Meaning.{System, meaning, MeanTheSame}
 use Rattle.rules.specs.declared.Place.{Place}
+use Rattle.rules.specs.declared.Rule.{Rule}
 use Rattle.rules.specs.declared.Judged.{Judged}
 use Rattle.rules.specs.declared.Judged.the-variants.{Admitted, Refused}
 use Rattle.stored.specs.declared.Fault.{Fault}
@@ -60,14 +61,20 @@ refused-file-gives-zeros file f at e = refused-read-gives-zeros file f at e
 pub nothing-longer-is-a-table : (input : List ℕ) → readOf (take 4096 input) ≡ readOf input
 nothing-longer-is-a-table input = first-bytes-suffice input
 
--- A write refuses with 1 exactly when rule 1 refuses the counts, at that place.
-pub counts-refused-exactly : (t : Table) (room : ℕ) (p : Place) → (writeOf (meaning t) room ≡ Uncounted p) → countsJudged (meaning t) ≡ Admitted → ⊥
+-- A write refuses with 1 at a place exactly when rule 1 refuses the counts at that place.
+pub counts-refused-exactly :
+    (t : Table) (room : ℕ) (p : Place) → (writeOf (meaning t) room ≡ Uncounted p) ↔ ((k : Rule) × (countsJudged (meaning t) ≡ Refused k p))
 unfolding writeOf
-counts-refused-exactly t room p e a = go (ltb room (length (fileOf (meaning t)))) (ap (λ (j : Judged). answerFor j (fileOf (meaning t)) room) (sym a) ∙ e)
+counts-refused-exactly t room p =
+    (λ e. to (countsJudged (meaning t)) refl e, λ r. ap (λ (j : Judged). answerFor j (fileOf (meaning t)) room) (r .1))
   where
-    go : (b : Bool) → cond b NoRoom (Written (length (fileOf (meaning t)))) ≡ Uncounted p → ⊥
-    go true q = let z : _≡_ {A = ℕ} 0 1 = cc in omega arith
-    go false q = let z : _≡_ {A = ℕ} 0 1 = cc in omega arith
+    no-room : (b : Bool) → cond b NoRoom (Written (length (fileOf (meaning t)))) ≡ Uncounted p → ⊥
+    no-room true q = let z : _≡_ {A = ℕ} 0 1 = cc in omega arith
+    no-room false q = let z : _≡_ {A = ℕ} 0 1 = cc in omega arith
+
+    to : (j : Judged) → countsJudged (meaning t) ≡ j → answerFor j (fileOf (meaning t)) room ≡ Uncounted p → (k : Rule) × (countsJudged (meaning t) ≡ Refused k p)
+    to (Refused k q) e w = let same : q ≡ p = cc in (k, e ∙ ap (Refused k) same)
+    to Admitted e w = absurd (no-room (ltb room (length (fileOf (meaning t)))) w)
 
 -- Then with 21 exactly when the buffer is shorter than the file.
 pub no-room-exactly :

@@ -1,6 +1,6 @@
 -- Step 1's inner ceiling and step 2's holding times, over what one subsystem means. Tasks and resources count from 0
--- here, so document 01's "n if none" is the last index, n − 1. Source 002: the ceiling of section 3.2, equation 3 for
--- the holding time. Assumes nothing.
+-- here, so document 01's "n if none" is the last index, n − 1. Source 002: equation 4 for
+-- the ceiling, 10 for X(i, l), 11 for X(s, l), 1 for X(s). Assumes nothing.
 use Prim.Native.Nat.{ℕ, _+_, _-_}
 use mathlib.Core.Bool.{Bool, cond}
 use mathlib.Core.Option.{Option·getD}
