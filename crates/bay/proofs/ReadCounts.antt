@@ -22,7 +22,7 @@ use Rattle.table.specs.declared.Table.{Table}
 use Rattle.rules.specs.declared.Rule.the-variants.{Counts}
 use Rattle.rules.specs.declared.Judged.the-variants.{Admitted}
 use Rattle.rules.specs.Rules.{countOut}
-use Rattle.rules.proofs.JudgingLaws.{OffendersFrom, offenders-from-zero, offenders-over, passed-here, nowhere-of-counts}
+use Rattle.rules.proofs.JudgingLaws.{OffendersFrom, offenders-from-zero, offenders-over, offenders-next, counts-nowhere}
 use Rattle.stored.specs.declared.ReadAnswer.the-variants.{Whole}
 use Rattle.stored.specs.Field.{valueOf, headerTag, headerLength, subsystemTag, subsystemLength, version}
 use Rattle.stored.specs.Judge.{headerInRange, subsystemInRange, judgeHeader, judgeSubsystem}
@@ -90,8 +90,8 @@ module _ (file : List ℕ) (unrefused : refusalIn file ≡ none) where
       let t = tableIn file in
       let u = getD (t .subsystems) s pastSubsystems in
       rw (← add-one s)
-      (passed-here t Counts s M (omega arith) refl _ refl
-      (sym (nowhere-of-counts M u (countOut (u .count)) refl (ap countOut (slot-count s (omega arith)) ∙ each-count s (omega arith))))
+      (offenders-next t Counts s (omega arith)
+      (counts-nowhere M u (countOut (u .count)) refl (ap countOut (slot-count s (omega arith)) ∙ each-count s (omega arith)))
       (passes-to s (omega arith)))
 
   counts-pass : countsJudged (meaning (tableIn file)) ≡ Admitted

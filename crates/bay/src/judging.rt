@@ -4,9 +4,9 @@ ghost use Prim.Native.Nat.{_<_, _^_};
 ghost use Rattle.bay.specs.Judgement.{fileJudgement, tableJudgement, judgementOf};
 use crate::Judgement;
 use rules::Judged;
+use rules::places::rule_number;
 use stored::FileRefusal;
 use stored::ReadAnswer;
-use text::rule_number;
 
 // The judgement of a file that is refused so.
 pub fn file_judgement(refusal: FileRefusal) -> Judgement

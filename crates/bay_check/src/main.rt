@@ -5,5 +5,6 @@ use libc::STDIN_FILENO;
 fn main() {
     let mut file = [0u8; 4096];
     let n = io::read_full(STDIN_FILENO, &mut file);
-    printing::print_text(&file[..n]);
+    let mut buf = [0u8; text::ROOM];
+    printing::print_text(&file[..n], &mut buf);
 }

@@ -15,8 +15,12 @@ fn say(words: &[u8], k: u32) {
     io::write_all(STDOUT_FILENO, b"\n");
 }
 
-// Passes over so many bytes of the input; false where they do not all come.
+// Passes over so many bytes of the input; false where they do not all come. Few files are so long: the space for it is its
+// own, and is made only then.
 fn pass_over(bytes: u32) -> bool {
+    if bytes == 0 {
+        return true;
+    }
     let mut left = bytes;
     let mut space = [0u8; 4096];
     while 4096 < left {
@@ -42,8 +46,8 @@ fn judged_part(length: u32) -> u32
     if length < 4096 { length } else { 4096 }
 }
 
-// Judges file k, of so many bytes, in a space of 4,096; false where they do not all come.
-fn judge_file(k: u32, length: u32, space: &mut [u8]) -> bool
+// Judges file k, of so many bytes, in a space of 4,096; false where they do not all come. The text is made up in `buf`.
+fn judge_file(k: u32, length: u32, space: &mut [u8], buf: &mut [u8]) -> bool
     requires { ⌜ ListN.length (now space) ≡ 4096 ⌝ }
 {
     let part = judged_part(length);
@@ -55,12 +59,14 @@ fn judge_file(k: u32, length: u32, space: &mut [u8]) -> bool
         return broken(k);
     }
     say(b"file ", k);
-    printing::print_text(&space[..wanted]);
+    printing::print_text(&space[..wanted], buf);
     true
 }
 
 // Judges the next file, number k; false where there is none, or its frame is broken.
-fn judge_next(k: u32) -> bool {
+fn judge_next(k: u32, space: &mut [u8], buf: &mut [u8]) -> bool
+    requires { ⌜ ListN.length (now space) ≡ 4096 ⌝ }
+{
     let mut head = [0u8; 4];
     let came = io::read_full(STDIN_FILENO, &mut head);
     if came == 0 {
@@ -70,15 +76,16 @@ fn judge_next(k: u32) -> bool {
         return broken(k);
     }
     let length = stored::number::number_at(&head, 0);
-    let mut space = [0u8; 4096];
-    judge_file(k, length, &mut space)
+    judge_file(k, length, space, buf)
 }
 
 // A proved loop has to end, and nothing says that standard input does: the number of files is bounded, by one that no run
-// uses up.
+// uses up. All files share the space and the buffer, which are cleared once.
 fn main() {
+    let mut space = [0u8; 4096];
+    let mut buf = [0u8; text::ROOM];
     let mut k: u32 = 1;
-    while k < u32::MAX && judge_next(k) {
+    while k < u32::MAX && judge_next(k, &mut space, &mut buf) {
         k += 1;
     }
 }

@@ -1,11 +1,10 @@
 // Figures as lines on standard output: a name, then the value or the values.
 ghost use mathlib.Core.Path.{_≡_};
-ghost use Rattle.rules.specs.Refusal.{numberOf};
 use global::Outcome;
 use global::Row;
 use libc::STDOUT_FILENO;
 use rules::Judged;
-use rules::Rule;
+use rules::places::rule_number;
 
 // Bytes as they are.
 pub(crate) fn text(bytes: &[u8]) {
@@ -42,19 +41,6 @@ fn figure_and(r: u32, rest: &[u8]) {
     text(rest);
 }
 
-// Document 01's number of a rule.
-fn rule_number(rule: Rule) -> u64
-    ensures { λ r. ⌜ r ≡ numberOf rule ⌝ }
-{
-    match rule {
-        Rule::Counts => 1,
-        Rule::Range => 2,
-        Rule::Order => 3,
-        Rule::Access => 4,
-        Rule::Overrun => 5,
-    }
-}
-
 // A line with a judgement.
 pub(crate) fn judgement(name: &[u8], judged: Judged) {
     text(name);
@@ -63,7 +49,7 @@ pub(crate) fn judgement(name: &[u8], judged: Judged) {
         return;
     };
     text(b"refused ");
-    number(rule_number(rule));
+    number(rule_number(rule) as u64);
     text(b" at ");
     number(place.subsystem as u64);
     text(b" ");

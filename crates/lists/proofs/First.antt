@@ -112,6 +112,25 @@ module _ {A : Type 0} (f : ℕ → Option A) where
       firstOf-miss f n a (h a (omega arith) (omega arith)) ∙
       firstOf-nowhere n (suc a) (λ y l u. h y (omega arith) (omega arith))
 
+-- One place more: it answers where nothing before it does.
+pub firstOf-more : {A : Type 0} (f : ℕ → Option A) (n : ℕ) → firstOf f (n + 1) 0 ≡ orElse (firstOf f n 0) (f n)
+unfolding firstOf
+firstOf-more {A} f n = rw add-one (go n 0 ∙ ap (λ (y : ℕ). orElse (firstOf f n 0) (f y)) (omega arith))
+  where
+    last : (o : Option A) → orElse o none ≡ o
+    last none = refl
+    last (some v) = refl
+
+    joined : (o p q : Option A) → orElse o (orElse p q) ≡ orElse (orElse o p) q
+    joined none p q = refl
+    joined (some v) p q = refl
+
+    go : (n a : ℕ) → firstOf f (suc n) a ≡ orElse (firstOf f n a) (f (a + n))
+    go zero a = last (f a) ∙ ap f (omega arith)
+    go (suc n) a =
+        ap (orElse (f a)) (go n (suc a) ∙ ap (λ (y : ℕ). orElse (firstOf f n (suc a)) (f y)) (omega arith)) ∙
+        joined (f a) (firstOf f n (suc a)) (f (a + suc n))
+
 -- Only what f gives within the range matters.
 pub firstOf-ext : {A : Type 0} (f g : ℕ → Option A) (n a : ℕ) → ((y : ℕ) → a ≤ y → y < a + n → f y ≡ g y) → firstOf f n a ≡ firstOf g n a
 unfolding firstOf

@@ -1,9 +1,9 @@
 -- Laws of task blocking: which accesses count, and what each turn of the search for the longest settles, read off the
--- table's own slots. Assumes nothing.
+-- column. Assumes nothing.
 use Prim.Native.Nat.{ℕ, zero, suc, _+_, _≤_, _<_, max}
 use mathlib.Core.Path.{_≡_, refl, sym, ap, ap₂, _∙_}
 use mathlib.Core.Bool.{Bool, true, false, cond, _&&_}
-use mathlib.Core.List.{List}
+use mathlib.Core.List.{List, []}
 use native.Mathlib.Omega.{arith}
 use borrow.Author.Tests.{lt-ltb, le-ltb, le-leb, lt-leb, ltb-false}
 use lib.Dec.{ltb, leb}
@@ -13,9 +13,11 @@ use Rattle.lists.proofs.Over.{largestTo-suc, largest-at-most}
 use Rattle.lists.proofs.UpTo.{getD-padded}
 use Rattle.table.specs.declared.Subsystem.{Subsystem}
 use Rattle.table.specs.Limits.{most}
-use Rattle.table.specs.Meaning.{SubsystemM, subsystemM, pastTasks}
+use Rattle.table.specs.Meaning.{SubsystemM, subsystemM}
 use Rattle.table.specs.Parts.{taskCount, taskOf, accessOf}
-use Rattle.table.proofs.Parts.{count-of-tasks, access-of-slots}
+use Rattle.table.specs.Columns.{Accesses}
+use Rattle.table.proofs.Parts.{count-of-tasks}
+use Rattle.table.proofs.ColumnLaws.{access-in-column}
 use Rattle.rules.specs.Holding.{uses, innerCeiling}
 use Rattle.local.specs.Blocking.{canBlock, blockingAccess, resourceBlocking, taskBlocking}
 
@@ -59,14 +61,15 @@ no-blocking-up-to u i l = sym (nothing-above-zero (blockingAccess u i l) (i + 1)
 module _ (m : ℕ) (sub : Subsystem) (i l : ℕ) where
   -- A turn of the search over the tasks below i.
   pub blocking-turn :
+      (accesses : List (List ℕ)) → Accesses sub accesses →
       (j ceiling : ℕ) → i < j → j < sub .count → l < m → ceiling ≡ innerCeiling (subsystemM m sub) l → ceiling ≤ i → (longest x : ℕ) →
-      longest ≡ largestTo (blockingAccess (subsystemM m sub) i l) j → x ≡ getD (getD (sub .tasks) j pastTasks .access) l 0 →
+      longest ≡ largestTo (blockingAccess (subsystemM m sub) i l) j → x ≡ getD (getD accesses j []) l 0 →
       max longest x ≡ largestTo (blockingAccess (subsystemM m sub) i l) (j + 1)
-  blocking-turn j ceiling h k n c d longest x e f =
+  blocking-turn accesses a j ceiling h k n c d longest x e f =
       rw (
         largestTo-suc (blockingAccess (subsystemM m sub) i l) j,
         blocking-by-one-below (subsystemM m sub) i l j h (omega arith),
-        access-of-slots m sub j l k n,
+        access-in-column m sub j k accesses a l n,
         e,
         f,
       )

@@ -2,11 +2,11 @@
 use Prim.Native.Nat.{ℕ, _≤_, _<_, _^_}
 use mathlib.Core.Path.{_≡_}
 use mathlib.Core.List.{List}
-use lib.ListN.{getD}
 use Rattle.lists.specs.Range.{padded}
 use Rattle.table.specs.Limits.{most}
 use Rattle.table.specs.declared.Subsystem.{Subsystem}
-use Rattle.table.specs.Meaning.{subsystemM, pastTasks}
+use Rattle.table.specs.Meaning.{subsystemM}
+use Rattle.table.specs.Columns.{Columns}
 use Rattle.rules.specs.Admitted.{SoundSubsystem}
 use Rattle.rules.specs.Holding.{innerCeiling}
 use Rattle.local.specs.declared.Share.{Share}
@@ -24,18 +24,10 @@ pub record Ceilings (sub : Subsystem) (m : ℕ) (ceilings : List ℕ) (i : ℕ) 
   pub task : i < sub .count
   pub are : ceilings ≡ padded (innerCeiling (subsystemM m sub)) 0 most m
 
--- The separation and the work in a task's slot.
-unfoldable pub separationAt : Subsystem → ℕ → ℕ
-separationAt sub j = getD (sub .tasks) j pastTasks .separation
-
-unfoldable pub workAt : Subsystem → ℕ → ℕ
-workAt sub j = getD (sub .tasks) j pastTasks .work
-
 -- What is taken out of a subsystem once, for all its tasks.
-pub record TakenOut (sub : Subsystem) (m : ℕ) (ceilings separations works : List ℕ) : Type 0 where
+pub record TakenOut (sub : Subsystem) (m : ℕ) (ceilings separations works deadlines : List ℕ) (accesses : List (List ℕ)) : Type 0 where
   pub ceilings-are : ceilings ≡ padded (innerCeiling (subsystemM m sub)) 0 most m
-  pub separations-are : separations ≡ padded (separationAt sub) 0 most (sub .count)
-  pub works-are : works ≡ padded (workAt sub) 0 most (sub .count)
+  pub columns : Columns sub separations works deadlines accesses
 
 -- A subsystem of an admitted table, with its giving end.
 pub record Ready (sub : Subsystem) (m end : ℕ) : Type 0 where

@@ -1,12 +1,11 @@
 // Steps 3 to 5 for one subsystem: task blocking, passing, and the first failing task. The subsystem is one of an admitted
 // table, which `Ready` says. Every function here is proved, and the crate assumes nothing of its own.
 ghost use mathlib.Core.Path.{_≡_};
-ghost use Prim.Native.Nat.{_≤_, _<_};
-ghost use Rattle.lists.specs.Range.{padded};
-ghost use Rattle.table.specs.Limits.{most};
+ghost use Prim.Native.Nat.{_<_};
 ghost use Rattle.table.specs.Meaning.{subsystemM};
+ghost use Rattle.table.specs.Columns.{Columns};
 ghost use Rattle.local.specs.Passing.{taskPasses, firstFailing};
-ghost use Rattle.local.specs.Ready.{Ready, TakenOut, separationAt, workAt};
+ghost use Rattle.local.specs.Ready.{Ready, TakenOut};
 use table::Subsystem;
 use table::Table;
 
@@ -20,33 +19,6 @@ pub struct Share {
     pub end: u32,
 }
 
-// The tasks of a subsystem as loads: how often each may ask, and for how much.
-pub struct TaskLoads {
-    pub separations: [u32; Table::MOST],
-    pub works: [u32; Table::MOST],
-}
-
-// The separations and the works of the tasks in use, and zeros behind them.
-fn task_loads(sub: Subsystem) -> TaskLoads
-    requires { ⌜ sub .count ≤ most ⌝ }
-    ensures { λ r. ⌜ (r .separations ≡ padded (separationAt sub) 0 most (sub .count)) × (r .works ≡ padded (workAt sub) 0 most (sub .count)) ⌝ }
-{
-    let n = numbers::index(sub.count);
-    let mut separations = [0u32; Table::MOST];
-    let mut works = [0u32; Table::MOST];
-    let mut j = 0;
-    while j < n {
-        let task = sub.tasks[j];
-        separations[j] = task.separation;
-        works[j] = task.work;
-        j += 1;
-    }
-    TaskLoads {
-        separations: separations,
-        works: works,
-    }
-}
-
 // Whether task i passes, from what was taken out of the subsystem.
 fn task_passes(
     sub: Subsystem,
@@ -56,36 +28,53 @@ fn task_passes(
     ceilings: &[usize; Table::MOST],
     separations: &[u32; Table::MOST],
     works: &[u32; Table::MOST],
+    deadlines: &[u32; Table::MOST],
+    accesses: &[[u32; Table::MOST]; Table::MOST],
 ) -> bool
     requires { ⌜ Ready sub m end ⌝ }
-    requires { ⌜ (i < sub .count) × TakenOut sub m (now ceilings) (now separations) (now works) ⌝ }
+    requires { ⌜ (i < sub .count) × TakenOut sub m (now ceilings) (now separations) (now works) (now deadlines) (now accesses) ⌝ }
     ensures { λ r. ⌜ r ≡ taskPasses m (subsystemM m sub) end i ⌝ }
 {
-    let task = sub.tasks[i];
-    let blocked = blocking::task_blocking(sub, m, ceilings, i);
-    let constant = blocked + numbers::wide(task.work);
+    let blocked = blocking::task_blocking(sub, m, ceilings, i, accesses);
+    let constant = blocked + numbers::wide(works[i]);
+    let deadline = deadlines[i];
     let share = Share {
         period: sub.period,
         budget: sub.budget,
         end: end,
     };
-    passing::held_within(separations, works, i, constant, task.deadline, share)
+    passing::held_within(separations, works, i, constant, deadline, share)
 }
 
 // The first failing task of a subsystem with m resources in use, whose budget is given among a period's first `end`
-// ticks: 1 for the first task, 0 where every task passes.
-pub fn first_failing_task(sub: Subsystem, m: usize, end: u32) -> u8
+// ticks: 1 for the first task, 0 where every task passes. The subsystem's tasks come as columns.
+pub fn first_failing_task(
+    sub: Subsystem,
+    m: usize,
+    end: u32,
+    separations: &[u32; Table::MOST],
+    works: &[u32; Table::MOST],
+    deadlines: &[u32; Table::MOST],
+    accesses: &[[u32; Table::MOST]; Table::MOST],
+) -> u8
     requires { ⌜ Ready sub m end ⌝ }
+    requires { ⌜ Columns sub (now separations) (now works) (now deadlines) (now accesses) ⌝ }
     ensures { λ r. ⌜ r ≡ firstFailing m (subsystemM m sub) end ⌝ }
 {
-    let ceilings = blocking::inner_ceilings(sub, m);
-    let loads = task_loads(sub);
-    let separations = loads.separations;
-    let works = loads.works;
-    let n = numbers::index(sub.count);
+    let ceilings = blocking::inner_ceilings(sub, m, accesses);
     let mut i = 0;
-    while i < n {
-        if !task_passes(sub, m, end, i, &ceilings, &separations, &works) {
+    while i < numbers::index(sub.count) {
+        if !task_passes(
+            sub,
+            m,
+            end,
+            i,
+            &ceilings,
+            separations,
+            works,
+            deadlines,
+            accesses,
+        ) {
             return (i + 1) as u8;
         }
         i += 1;

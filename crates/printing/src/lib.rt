@@ -2,12 +2,12 @@
 use libc::STDOUT_FILENO;
 use text::Printed;
 
-// Writes what `check` prints for a file. The buffer has room for any text, so some text is always written.
-pub fn print_text(file: &[u8])
+// Writes what `check` prints for a file, made up in a lent buffer. One of `text::ROOM` bytes has room for any text; with a
+// shorter one nothing is written.
+pub fn print_text(file: &[u8], buf: &mut [u8])
     ensures { λ _. ⊤ₛ }
 {
-    let mut buf = [0u8; 2048];
-    let printed = text::check_text(file, &mut buf);
+    let printed = text::check_text(file, buf);
     if let Printed::Text(len) = printed {
         io::write_all(STDOUT_FILENO, &buf[..len]);
     }

@@ -27,11 +27,14 @@ use Rattle.report.specs.Slots.{SoundSlot}
 
 module _ (sub : Subsystem) (m : ℕ) (sound : SoundSlot sub m) where
   -- What rule 1 gave.
+  pub tasks-most : sub .count ≤ most
+  tasks-most = rw (← count-of-tasks m sub) (sound .sound .tasks-most)
+
   pub slots : (l : ℕ) → l < m → Slots sub m l
   slots l h =
       record {
         some-task = rw (← count-of-tasks m sub) (sound .sound .tasks-least);
-        tasks-most = rw (← count-of-tasks m sub) (sound .sound .tasks-most);
+        tasks-most = tasks-most;
         resources-most = sound .resources-most;
         listed = h;
       }

@@ -2,12 +2,16 @@
 ghost use mathlib.Core.Path.{_≡_};
 ghost use Rattle.lists.specs.Range.{padded};
 ghost use Rattle.table.specs.Limits.{most};
-ghost use Rattle.table.specs.Meaning.{meaning};
+ghost use Rattle.table.specs.Meaning.{meaning, subsystemM};
+ghost use Rattle.local.specs.Passing.{firstFailing};
+ghost use Rattle.local.specs.Ready.{Ready};
 ghost use Rattle.rules.specs.Admitted.{SoundSystem};
 ghost use Rattle.report.specs.Report.{noRow, rowAt};
 use global::Outcome;
 use global::Row;
+use table::Subsystem;
 use table::Table;
+use table::columns::take_columns;
 
 // The row past the last subsystem.
 pub fn no_row() -> Row
@@ -23,6 +27,25 @@ pub fn no_row() -> Row
         resource: 0,
         outcome: Outcome::None,
     }
+}
+
+// The first failing task of a subsystem, 0 where every task passes.
+fn failing_in(sub: Subsystem, m: usize, end: u32) -> u8
+    requires { ⌜ Ready sub m end ⌝ }
+    ensures { λ r. ⌜ r ≡ firstFailing m (subsystemM m sub) end ⌝ }
+{
+    let mut separations = [0u32; Table::MOST];
+    let mut works = [0u32; Table::MOST];
+    let mut deadlines = [0u32; Table::MOST];
+    let mut accesses = [[0u32; Table::MOST]; Table::MOST];
+    take_columns(
+        sub,
+        &mut separations,
+        &mut works,
+        &mut deadlines,
+        &mut accesses,
+    );
+    local::first_failing_task(sub, m, end, &separations, &works, &deadlines, &accesses)
 }
 
 // The rows of all subsystems, and rows of zeros behind them. The giving ends X ticks before the period, and Q + X is what
@@ -41,7 +64,7 @@ pub fn rows_of(t: Table) -> [Row; Table::MOST]
     while s < n {
         let sub = t.subsystems[s];
         let end = sub.period - (costs[s] - sub.budget);
-        let failing = local::first_failing_task(sub, m, end);
+        let failing = failing_in(sub, m, end);
         rows[s] = global::row_of(g, common, s, failing as u32);
         s += 1;
     }

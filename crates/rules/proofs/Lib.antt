@@ -2,6 +2,7 @@
 pub mod HoldingLaws
 pub mod BreaksLaws
 pub mod JudgingLaws
+pub mod EarlierLaws
 pub mod OrderLaws
 pub mod Exactly
 pub mod Sound

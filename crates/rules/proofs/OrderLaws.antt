@@ -35,32 +35,6 @@ refusal-stands j x next k p e r = r ∙ ap (λ (y : Judged). unlessRefused y nex
 pub next-judges : (j x next : Judged) → j ≡ x → j ≡ Admitted → unlessRefused x next ≡ next
 next-judges j x next e a = ap (λ (y : Judged). unlessRefused y next) (sym e ∙ a)
 
--- The three ways out of rules 2 to 5 that a refusal takes, and the last.
-module _ (sys : System) where
-  pub by-range : (r : Judged) (k : Rule) (p : Place) → r ≡ judgedBy sys Range → r ≡ Refused k p → r ≡ judgedPastCounts sys
-  unfolding judgedPastCounts
-  by-range r k p e h = refusal-stands r _ _ k p e h
-
-  pub by-order :
-      (r o : Judged) (k : Rule) (p : Place) → r ≡ judgedBy sys Range → r ≡ Admitted → o ≡ judgedBy sys Order → o ≡ Refused k p →
-      o ≡ judgedPastCounts sys
-  unfolding judgedPastCounts
-  by-order r o k p e h f g = refusal-stands o _ _ k p f g ∙ sym (next-judges r _ _ e h)
-
-  pub by-access :
-      (r o a : Judged) (k : Rule) (p : Place) → r ≡ judgedBy sys Range → r ≡ Admitted → o ≡ judgedBy sys Order → o ≡ Admitted →
-      a ≡ judgedBy sys Access → a ≡ Refused k p → a ≡ judgedPastCounts sys
-  unfolding judgedPastCounts
-  by-access r o a k p e h f g d i =
-      refusal-stands a _ _ k p d i ∙ sym (next-judges o _ _ f g) ∙ sym (next-judges r _ _ e h)
-
-  pub by-overrun :
-      (r o a v : Judged) → r ≡ judgedBy sys Range → r ≡ Admitted → o ≡ judgedBy sys Order → o ≡ Admitted →
-      a ≡ judgedBy sys Access → a ≡ Admitted → v ≡ judgedBy sys Overrun → v ≡ judgedPastCounts sys
-  unfolding judgedPastCounts
-  by-overrun r o a v e h f g d i w =
-      w ∙ sym (next-judges a _ _ d i) ∙ sym (next-judges o _ _ f g) ∙ sym (next-judges r _ _ e h)
-
 ------------------------------------------------------------------------
 -- Rule 1 for the table as a whole
 

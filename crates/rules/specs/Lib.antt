@@ -5,4 +5,4 @@ pub mod Refusal
 pub mod Admitted
 pub mod Exactly
 pub mod Slots
-pub mod Spots
+pub mod Earlier

@@ -3,61 +3,16 @@
 ghost use mathlib.Core.Path.{_≡_};
 ghost use Prim.Native.Nat.{_≤_};
 ghost use Rattle.table.specs.Limits.{most};
-ghost use Rattle.table.specs.Meaning.{subsystemM, meaning};
+ghost use Rattle.table.specs.Meaning.{meaning};
 ghost use Rattle.rules.specs.declared.Rule.the-variants.{Counts};
-ghost use Rattle.rules.specs.Rules.{offenderIn, judgedBy, judgedPastCounts, judgeOf, judgeOneOf};
-ghost use Rattle.rules.specs.Spots.{spotOf};
-ghost use Rattle.rules.specs.Slots.{Counted, CountedTable};
+ghost use Rattle.rules.specs.Rules.{judgedBy, judgedPastCounts, judgeOf, judgeOneOf};
+ghost use Rattle.rules.specs.Slots.{CountedTable};
 use crate::Judged;
 use crate::Place;
 use crate::Rule;
-use table::Subsystem;
+use crate::places::earlier;
+use crate::places::judged_subsystem;
 use table::Table;
-
-// Where in a subsystem a rule is broken: 0 for the subsystem itself, i for its i-th task.
-pub enum Spot {
-    At(u8),
-    Nowhere,
-}
-
-// The first place of a subsystem that breaks the rule.
-pub fn offender_in(sub: Subsystem, m: usize, rule: Rule) -> Spot
-    requires { ⌜ Counted sub m ⌝ }
-    ensures { λ r. ⌜ r ≡ spotOf (offenderIn m rule (subsystemM m sub)) ⌝ }
-{
-    if crate::breaks::subsystem_breaks(sub, m, rule) {
-        return Spot::At(0);
-    }
-    let n = numbers::index(sub.count);
-    let mut i = 0;
-    while i < n {
-        let task = sub.tasks[i];
-        i += 1;
-        if crate::breaks::task_breaks(task, m, rule) {
-            return Spot::At(i as u8);
-        }
-    }
-    Spot::Nowhere
-}
-
-// The judgement by one rule: the first place of the lowest subsystem that breaks it.
-pub fn refused_by(t: Table, rule: Rule) -> Judged
-    requires { ⌜ CountedTable t ⌝ }
-    ensures { λ r. ⌜ r ≡ judgedBy (meaning t) rule ⌝ }
-{
-    let n = numbers::index(t.count);
-    let m = numbers::index(t.resources);
-    let mut s = 0;
-    while s < n {
-        let sub = t.subsystems[s];
-        s += 1;
-        if let Spot::At(task) = offender_in(sub, m, rule) {
-            let subsystem = s as u8;
-            return Judged::Refused(rule, Place { subsystem, task });
-        }
-    }
-    Judged::Admitted
-}
 
 // The judgement by rule 1 of the subsystems' own counts.
 pub fn refused_by_counts(t: Table) -> Judged
@@ -67,9 +22,9 @@ pub fn refused_by_counts(t: Table) -> Judged
     let n = numbers::index(t.count);
     let mut s = 0;
     while s < n {
-        let sub = t.subsystems[s];
+        let count = t.subsystems[s].count;
         s += 1;
-        if crate::breaks::count_out(sub.count) {
+        if crate::breaks::count_out(count) {
             let subsystem = s as u8;
             return Judged::Refused(Rule::Counts, Place { subsystem, task: 0 });
         }
@@ -77,24 +32,21 @@ pub fn refused_by_counts(t: Table) -> Judged
     Judged::Admitted
 }
 
-// Rules 2 to 5 in their order, once rule 1 has passed.
+// Rules 2 to 5 in their order, once rule 1 has passed, in one pass over the places.
 pub fn refused_in_order(t: Table) -> Judged
     requires { ⌜ CountedTable t ⌝ }
     ensures { λ r. ⌜ r ≡ judgedPastCounts (meaning t) ⌝ }
 {
-    let range = refused_by(t, Rule::Range);
-    let Judged::Admitted = range else {
-        return range;
-    };
-    let order = refused_by(t, Rule::Order);
-    let Judged::Admitted = order else {
-        return order;
-    };
-    let access = refused_by(t, Rule::Access);
-    let Judged::Admitted = access else {
-        return access;
-    };
-    refused_by(t, Rule::Overrun)
+    let n = numbers::index(t.count);
+    let m = numbers::index(t.resources);
+    let mut found = Judged::Admitted;
+    let mut s = 0;
+    while s < n {
+        let sub = t.subsystems[s];
+        s += 1;
+        found = earlier(found, judged_subsystem(sub, m, s as u8));
+    }
+    found
 }
 
 // The judgement of any table: admitted, or refused by the first rule that is broken, at the first place that breaks it.

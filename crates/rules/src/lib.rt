@@ -7,6 +7,7 @@ use table::Table;
 pub mod breaks;
 pub mod holding;
 pub mod judging;
+pub mod places;
 
 // The rules, by what they are about.
 pub enum Rule {

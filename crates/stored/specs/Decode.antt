@@ -13,13 +13,11 @@ use Rattle.stored.specs.Numbers.{numberSize, numberAt}
 use Rattle.stored.specs.Field.{countAt, taskLength}
 
 -- A header's value: version, N, M. The table with these counts and zeros.
+abbrev pub headed : ℕ → ℕ → Table
+headed n m = record { count = n; resources = m; subsystems = replicate most zeroSubsystem }
+
 unfoldable pub decodedHeader : List ℕ → Table
-decodedHeader value =
-    record {
-      count = getD value 1 0;
-      resources = getD value 2 0;
-      subsystems = replicate most zeroSubsystem;
-    }
+decodedHeader value = headed (getD value 1 0) (getD value 2 0)
 
 -- A subsystem's value: P, Q, n. The subsystem with these and no tasks yet.
 unfoldable pub decodedSubsystem : List ℕ → Subsystem

@@ -3,13 +3,12 @@ ghost use mathlib.Core.Path.{_≡_};
 ghost use Prim.Native.Nat.{_≤_};
 ghost use lib.ListN.{length};
 ghost use Rattle.table.specs.Limits.{most};
-ghost use Rattle.stored.specs.Field.{headerLength, subsystemLength, taskLength};
-ghost use Rattle.stored.specs.Decode.{decodedHeader, decodedSubsystem, decodedTask};
+ghost use Rattle.stored.specs.Field.{subsystemLength, taskLength};
+ghost use Rattle.stored.specs.Decode.{decodedSubsystem, decodedTask};
 use crate::judge::COUNT_AT;
 use crate::number::NUMBER;
 use crate::number::number_at;
 use table::Subsystem;
-use table::Table;
 use table::Task;
 
 // Where the second and the third number of a value stand.
@@ -18,17 +17,6 @@ const SECOND: usize = NUMBER;
 const THIRD: usize = 2 * NUMBER;
 // The length of a task's value without its accesses.
 pub const TASK_START: usize = 3 * NUMBER;
-
-// A table with the counts of a header and zeros.
-pub fn decode_header(value: &[u8]) -> Table
-    requires { ⌜ headerLength ≤ length (now value) ⌝ }
-    ensures { λ r. ⌜ r ≡ decodedHeader (now (value .entry)) ⌝ }
-{
-    let mut t = Table::zeros();
-    t.count = value[1];
-    t.resources = value[2];
-    t
-}
 
 // A subsystem with its period, its budget and its number of tasks, and no tasks yet.
 pub fn decode_subsystem(value: &[u8]) -> Subsystem

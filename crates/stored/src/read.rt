@@ -4,6 +4,7 @@ ghost use mathlib.Core.Path.{_≡_};
 ghost use Prim.Native.Nat.{_≤_};
 ghost use lib.ListN.{length};
 ghost use Rattle.table.specs.Limits.{most};
+ghost use Rattle.stored.specs.Decode.{headed};
 ghost use Rattle.stored.specs.Read.{refusedAt, wholeUnless, headerIn, headAt, taskPlace, subsystemPlace, tasksRefusal, refusalFrom, bodyRefusal, tableIn, IsReading, readingOf, readOf};
 use crate::Fault;
 use crate::FieldAnswer;
@@ -11,7 +12,6 @@ use crate::ReadAnswer;
 use crate::Reading;
 use crate::SubsystemReading;
 use crate::decode::TASK_START;
-use crate::decode::decode_header;
 use crate::decode::decode_subsystem;
 use crate::decode::decode_task;
 use crate::judge::START;
@@ -85,15 +85,20 @@ fn read_subsystem(file: &[u8], at: usize, m: usize) -> SubsystemReading
     read_tasks(file, at, head, at + (START + len), m)
 }
 
-// Reads the subsystems behind the header; `head` is what the header says, and `first` the offset of the first.
-fn read_subsystems(file: &[u8], head: Table, first: usize) -> Reading
-    requires { ⌜ (head .count ≤ most) × ((head .resources ≤ most) × (head ≡ headerIn (now file))) ⌝ }
-    requires { ⌜ (first ≡ subsystemPlace (now file) (head .resources) 0) × (first ≤ length (now file)) ⌝ }
-    ensures { λ r. ⌜ r ≡ readingOf (bodyRefusal (now (file .entry)) (head .resources) (head .count)) (tableIn (now (file .entry))) ⌝ }
+// Reads the subsystems behind the header, which gives the two counts; `first` is the offset of the first. The table is
+// made here, where it is filled, so that it is copied once less.
+fn read_subsystems(file: &[u8], count: u8, resources: u8, first: usize) -> Reading
+    requires { ⌜ (count ≤ most) × ((resources ≤ most) × (headed count resources ≡ headerIn (now file))) ⌝ }
+    requires { ⌜ (first ≡ subsystemPlace (now file) resources 0) × (first ≤ length (now file)) ⌝ }
+    ensures { λ r. ⌜ r ≡ readingOf (bodyRefusal (now (file .entry)) resources count) (tableIn (now (file .entry))) ⌝ }
 {
-    let n = head.count as usize;
-    let m = head.resources as usize;
-    let mut t = head;
+    let n = count as usize;
+    let m = resources as usize;
+    let mut t = Table {
+        count,
+        resources,
+        subsystems: [Subsystem::zeros(); Table::MOST],
+    };
     let mut at = first;
     let mut s = 0;
     while s < n {
@@ -136,6 +141,6 @@ pub fn read_table(file: &[u8]) -> Reading
             table: Table::zeros(),
         };
     };
-    let head = decode_header(value(rest, len));
-    read_subsystems(file, head, START + len)
+    let header = value(rest, len);
+    read_subsystems(file, header[1], header[2], START + len)
 }

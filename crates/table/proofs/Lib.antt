@@ -1,2 +1,3 @@
 -- Laws of what a table means.
 pub mod Parts
+pub mod ColumnLaws

@@ -5,6 +5,8 @@ ghost use mathlib.Core.Path.{_≡_};
 ghost use Rattle.table.specs.Limits.{most, largest, horizon};
 ghost use Rattle.table.specs.Zeros.{zeroTask, zeroSubsystem, zeroTable};
 
+pub mod columns;
+
 // A task: minimum separation T, work C, deadline D, and for each resource its longest access c, 0 meaning no access.
 pub struct Task {
     pub separation: u32,

@@ -14,7 +14,8 @@ fn judge_named(path: &[u8]) {
     let mut file = [0u8; 4096];
     let n = io::read_full(fd, &mut file);
     libc::close(fd);
-    printing::print_text(&file[..n]);
+    let mut buf = [0u8; text::ROOM];
+    printing::print_text(&file[..n], &mut buf);
 }
 
 // The table that argument i names.

@@ -24,7 +24,6 @@ mod line;
 mod refused;
 
 pub use line::response;
-pub use refused::rule_number;
 
 // The answer for a lent buffer. specs/Text.antt says when it is which, and what the buffer holds then.
 pub enum Printed {

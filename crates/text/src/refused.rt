@@ -2,7 +2,7 @@
 ghost use mathlib.Core.Path.{_≡_};
 ghost use Prim.Native.Nat.{_+_, _^_, _≤_, _<_};
 ghost use lib.ListN.{length};
-ghost use Rattle.rules.specs.Refusal.{numberOf, refusal};
+ghost use Rattle.rules.specs.Refusal.{refusal};
 ghost use Rattle.text.specs.Lines.{refusedTable, refusedFile};
 ghost use Rattle.text.specs.Room.{lineMost};
 ghost use Rattle.text.specs.Wrote.{Wrote};
@@ -11,20 +11,8 @@ use lines::put_bytes;
 use rules::Judged;
 use rules::Place;
 use rules::Rule;
+use rules::places::rule_number;
 use stored::FileRefusal;
-
-// The number of a rule.
-pub fn rule_number(rule: Rule) -> u32
-    ensures { λ r. ⌜ r ≡ numberOf rule ⌝ }
-{
-    match rule {
-        Rule::Counts => 1,
-        Rule::Range => 2,
-        Rule::Order => 3,
-        Rule::Access => 4,
-        Rule::Overrun => 5,
-    }
-}
 
 // The line of a table that is refused by a rule, at a place.
 pub fn put_refused_table(buf: &mut [u8], at: usize, rule: Rule, place: Place) -> usize

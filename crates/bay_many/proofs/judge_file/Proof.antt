@@ -1,7 +1,7 @@
-use native.Mathlib.Omega.{arith}
 use mathlib.Core.Path.{_≡_, sym}
 use lib.ListN.{length, take, length-append}
 use lib.Seq.{length-take-le}
+use native.Mathlib.Omega.{arith}
 use borrow.Author.Needs.{needs}
 use Rattle.bay_many.proofs.judge_file.Statement.{statement}
 use Rattle.bay_many.proofs.judge_file.Tie as tie
@@ -14,88 +14,92 @@ use Rattle.bay_many.proofs.say.Reads as say-reads
 use Rattle.io.proofs.read_full.Reads as read-full-reads
 use Rattle.printing.proofs.print_text.Reads as print-text-reads
 
--- src/main.rt:49:9
+-- src/main.rt:53:9
 judged-part-requires : tie.Need-judged-part-requires
 judged-part-requires c κs = search needs
 
--- src/main.rt:50:18
+-- src/main.rt:54:18
 cast-wanted : tie.Need-cast-wanted
 cast-wanted c = search needs
 
--- src/main.rt:51:36
+-- src/main.rt:55:36
 slice-relend-prefix-read-full : tie.Need-slice-relend-prefix-read-full
 slice-relend-prefix-read-full c = search needs
 
--- src/main.rt:51:36
+-- src/main.rt:55:36
 slice-aggregate-read-full : tie.Need-slice-aggregate-read-full
 slice-aggregate-read-full c =
-    sym (length-take-le (c .before .judged-part .result) (c .before .before .before .args .space .now) (omega (arith, c .before .before .before .pre, c .before .judged-part .ensures .0)))
+    sym (length-take-le (c .before .judged-part .result) (c .before .before .before .before .args .space .now) (omega (arith, c .before .before .before .before .pre, c .before .judged-part .ensures .0)))
 
--- src/main.rt:51:8
+-- src/main.rt:55:8
 read-full-requires : tie.Need-read-full-requires
 read-full-requires c κs = search needs
 
--- src/main.rt:52:9
+-- src/main.rt:56:9
 broken-requires : tie.Need-broken-requires
 broken-requires c κs = search needs
 
--- src/main.rt:52:9
+-- src/main.rt:56:9
 same-length : tie.Need-same-length
 same-length c = search needs
 
--- src/main.rt:52:9
+-- src/main.rt:56:9
 returns : tie.Need-returns
 returns c = search needs
 
--- src/main.rt:54:19
+-- src/main.rt:58:19
 sub-pass-over : tie.Need-sub-pass-over
 sub-pass-over c = search needs
 
--- src/main.rt:54:9
+-- src/main.rt:58:9
 pass-over-requires : tie.Need-pass-over-requires
 pass-over-requires c κs = search needs
 
--- src/main.rt:55:9
+-- src/main.rt:59:9
 broken-requires-2 : tie.Need-broken-requires-2
 broken-requires-2 c κs = search needs
 
--- src/main.rt:55:9
+-- src/main.rt:59:9
 same-length-2 : tie.Need-same-length-2
 same-length-2 c = search needs
 
--- src/main.rt:55:9
+-- src/main.rt:59:9
 returns-2 : tie.Need-returns-2
 returns-2 c = search needs
 
--- src/main.rt:57:9
+-- src/main.rt:61:9
 slice-aggregate-say : tie.Need-slice-aggregate-say
 slice-aggregate-say c = search needs
 
--- src/main.rt:57:5
+-- src/main.rt:61:5
 say-requires : tie.Need-say-requires
 say-requires c κs = search needs
 
--- src/main.rt:58:26
+-- src/main.rt:62:26
 slice-reshare-prefix-print-text : tie.Need-slice-reshare-prefix-print-text
 slice-reshare-prefix-print-text c = search needs
 
--- src/main.rt:58:26
+-- src/main.rt:62:26
 slice-aggregate-print-text : tie.Need-slice-aggregate-print-text
 slice-aggregate-print-text c =
     let n = c .before .before .before .before .before .before .before .before .before .before .judged-part .result in
-    let xs = c .before .before .before .before .before .before .before .before .before .before .before .before .args .space .now in
-    let k : length (take n xs) ≡ n = length-take-le n xs (omega (arith, c .before .before .before .before .before .before .before .before .before .before .before .before .pre, c .before .before .before .before .before .before .before .before .before .before .judged-part .ensures .0)) in
+    let xs = c .before .before .before .before .before .before .before .before .before .before .before .before .before .args .space .now in
+    let k : length (take n xs) ≡ n = length-take-le n xs (omega (arith, c .before .before .before .before .before .before .before .before .before .before .before .before .before .pre, c .before .before .before .before .before .before .before .before .before .before .judged-part .ensures .0)) in
     sym (length-take-le n _ (simp length-append (omega (arith, k, c .before .before .before .before .before .before .before .before .read-full .kept .1 .0))))
 
--- src/main.rt:58:5
+-- src/main.rt:62:5
 print-text-requires : tie.Need-print-text-requires
 print-text-requires c κs = search needs
 
--- src/main.rt:46:1
+-- src/main.rt:50:1
 same-length-3 : tie.Need-same-length-3
 same-length-3 c = search needs
 
--- src/main.rt:46:1
+-- src/main.rt:50:1
+same-length-4 : tie.Need-same-length-4
+same-length-4 c = search needs
+
+-- src/main.rt:50:1
 returns-3 : tie.Need-returns-3
 returns-3 c = search needs
 
@@ -122,4 +126,5 @@ judge-file-spec =
     slice-aggregate-print-text
     print-text-requires
     same-length-3
+    same-length-4
     returns-3)

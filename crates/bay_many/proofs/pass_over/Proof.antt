@@ -16,53 +16,57 @@ Inv-loop bytes left₀ space₀ left space = (length space ≡ 4096) × (left �
 abbrev μ-loop : tie.MeasureT-loop
 μ-loop bytes left₀ space₀ left space = left
 
--- src/main.rt:28:5
-loop-holds : tie.Need-loop-holds Inv-loop μ-loop
-loop-holds c = search needs
-
--- src/main.rt:29:40
-slice-aggregate-read-full : tie.Need-slice-aggregate-read-full Inv-loop μ-loop
-slice-aggregate-read-full c = search needs
-
--- src/main.rt:29:12
-read-full-requires : tie.Need-read-full-requires Inv-loop μ-loop
-read-full-requires c κs = search needs
-
--- src/main.rt:30:13
+-- src/main.rt:22:9
 returns : tie.Need-returns Inv-loop μ-loop
 returns c = search needs
 
--- src/main.rt:32:9
+-- src/main.rt:26:5
+loop-holds : tie.Need-loop-holds Inv-loop μ-loop
+loop-holds c = search needs
+
+-- src/main.rt:27:40
+slice-aggregate-read-full : tie.Need-slice-aggregate-read-full Inv-loop μ-loop
+slice-aggregate-read-full c = search needs
+
+-- src/main.rt:27:12
+read-full-requires : tie.Need-read-full-requires Inv-loop μ-loop
+read-full-requires c κs = search needs
+
+-- src/main.rt:28:13
+returns-2 : tie.Need-returns-2 Inv-loop μ-loop
+returns-2 c = search needs
+
+-- src/main.rt:30:9
 sub-left : tie.Need-sub-left Inv-loop μ-loop
 sub-left c = search needs
 
--- src/main.rt:28:5
+-- src/main.rt:26:5
 loop-less : tie.Need-loop-less Inv-loop μ-loop
 loop-less c = search needs
 
--- src/main.rt:28:5
+-- src/main.rt:26:5
 loop-again : tie.Need-loop-again Inv-loop μ-loop
 loop-again c = search needs
 
--- src/main.rt:34:16
+-- src/main.rt:32:16
 cast-last : tie.Need-cast-last Inv-loop μ-loop
 cast-last c = search needs
 
--- src/main.rt:35:41
+-- src/main.rt:33:41
 array-borrow-prefix-space : tie.Need-array-borrow-prefix-space Inv-loop μ-loop
 array-borrow-prefix-space c = search needs
 
--- src/main.rt:35:41
+-- src/main.rt:33:41
 slice-aggregate-read-full-2 : tie.Need-slice-aggregate-read-full-2 Inv-loop μ-loop
 slice-aggregate-read-full-2 c = sym (length-take-le _ _ (omega arith))
 
--- src/main.rt:35:13
+-- src/main.rt:33:13
 read-full-requires-2 : tie.Need-read-full-requires-2 Inv-loop μ-loop
 read-full-requires-2 c κs = search needs
 
--- src/main.rt:25:1
-returns-2 : tie.Need-returns-2 Inv-loop μ-loop
-returns-2 c = search needs
+-- src/main.rt:20:1
+returns-3 : tie.Need-returns-3 Inv-loop μ-loop
+returns-3 c = search needs
 
 pub pass-over-spec : {M : Type 1} → statement M
 pass-over-spec =
@@ -70,10 +74,11 @@ pass-over-spec =
     (tie.spec
     Inv-loop
     μ-loop
+    returns
     loop-holds
     slice-aggregate-read-full
     read-full-requires
-    returns
+    returns-2
     sub-left
     loop-less
     loop-again
@@ -81,4 +86,4 @@ pass-over-spec =
     array-borrow-prefix-space
     slice-aggregate-read-full-2
     read-full-requires-2
-    returns-2)
+    returns-3)

@@ -8,74 +8,85 @@ use borrow.Author.Needs.{needs}
 use native.Mathlib.Omega.{arith}
 use Rattle.local.proofs.first_failing_task.Statement.{statement}
 use Rattle.local.proofs.first_failing_task.Tie as tie
+use Rattle.local.proofs.first_failing_task.Reads as reads
+use Rattle.local.proofs.first_failing_task.Lts as lts
+use Rattle.local.proofs.blocking.inner_ceilings.Reads as inner-ceilings-reads
+use Rattle.local.proofs.task_passes.Reads as task-passes-reads
+use Rattle.numbers.proofs.index.Reads as index-reads
 
 abbrev Inv-loop : tie.InvT-loop
-Inv-loop sub m end ceilings separations works n i₀ i =
-    TakenOut sub m ceilings separations works × (n ≡ sub .count) × (i ≤ n) × FailingFrom m sub end i
+Inv-loop sub m end separations works deadlines accesses ceilings i₀ i =
+    TakenOut sub m ceilings separations works deadlines accesses × (i ≤ sub .count) × FailingFrom m sub end i
 
 abbrev μ-loop : tie.MeasureT-loop
-μ-loop sub m end ceilings separations works n i₀ i = n - i
+μ-loop sub m end separations works deadlines accesses ceilings i₀ i = sub .count - i
 
+-- src/lib.rt:64:20
 inner-ceilings-requires : tie.Need-inner-ceilings-requires Inv-loop μ-loop
-inner-ceilings-requires c κs =
-    record {
-      some-task = some-task _ _ (c .pre .sound);
-      tasks-most = tasks-within _ _ (c .pre .sound);
-      resources-most = c .pre .resources-most;
-    }
+inner-ceilings-requires c κs = (
+  record {
+    some-task = some-task _ _ (c .pre .0 .sound);
+    tasks-most = tasks-within _ _ (c .pre .0 .sound);
+    resources-most = c .pre .0 .resources-most;
+  },
+  c .pre .1 .accesses-are,
+)
 
-task-loads-requires : tie.Need-task-loads-requires Inv-loop μ-loop
-task-loads-requires c κs = tasks-within _ _ (c .before .pre .sound)
-
-index-requires : tie.Need-index-requires Inv-loop μ-loop
-index-requires c κs = search needs
-
+-- src/lib.rt:66:5
 loop-holds : tie.Need-loop-holds Inv-loop μ-loop
 loop-holds c = (
-  record {
-    ceilings-are = c .before .before .before .before .inner-ceilings .ensures;
-    separations-are = c .before .before .before .task-loads .ensures .0;
-    works-are = c .before .before .before .task-loads .ensures .1;
-  },
-  search needs,
+  record { ceilings-are = c .inner-ceilings .ensures; columns = c .before .pre .1 },
   search needs,
   failing-from-zero _ _ _,
 )
 
-task-passes-requires : tie.Need-task-passes-requires Inv-loop μ-loop
-task-passes-requires c κs = (c .before .before .before .before .before .before .before .before .before .before .pre, (omega arith, c .before .before .before .before .loop .inv .0))
+-- src/lib.rt:66:15
+index-requires : tie.Need-index-requires Inv-loop μ-loop
+index-requires c κs = search needs
 
+-- src/lib.rt:67:13
+task-passes-requires : tie.Need-task-passes-requires Inv-loop μ-loop
+task-passes-requires c κs =
+    let s : tie.Start Inv-loop μ-loop = c .before .before .before .before .before in
+    (s .pre .0, (omega arith, c .before .before .before .loop .inv .0))
+
+-- src/lib.rt:78:21
 add-result : tie.Need-add-result Inv-loop μ-loop
 add-result c = search needs
 
+-- src/lib.rt:78:20
 cast-result : tie.Need-cast-result Inv-loop μ-loop
 cast-result c = search needs
 
+-- src/lib.rt:78:13
 returns : tie.Need-returns Inv-loop μ-loop
 returns c =
-    let s : tie.Start Inv-loop μ-loop = c .before .before .before .before .before .before .before .before .before .before .before .before in
+    let s : tie.Start Inv-loop μ-loop = c .before .before .before .before .before .before .before in
     omega (
       arith,
-      failing-here (s .args .m) (s .args .sub) (s .args .end) (c .before .before .before .before .before .before .loop .i) (omega arith) _ (c .before .task-passes .ensures) (c .if1 .taken)
-          (c .before .before .before .before .before .before .loop .inv .3),
+      failing-here (s .args .m) (s .args .sub) (s .args .end) (c .before .before .before .before .before .loop .i) (omega arith) _ (c .before .task-passes .ensures) (c .if2 .taken)
+          (c .before .before .before .before .before .loop .inv .2),
     )
 
+-- src/lib.rt:80:9
 add-i : tie.Need-add-i Inv-loop μ-loop
 add-i c = search needs
 
+-- src/lib.rt:66:5
 loop-less : tie.Need-loop-less Inv-loop μ-loop
 loop-less c = search needs
 
+-- src/lib.rt:66:5
 loop-again : tie.Need-loop-again Inv-loop μ-loop
 loop-again c = (
-  c .before .before .before .before .before .before .loop .inv .0,
-  search needs,
-  search needs,
-  failing-next _ _ _ _ (omega arith) _ (c .before .task-passes .ensures) (c .if1 .left) (c .before .before .before .before .before .before .loop .inv .3),
+  c .before .before .before .before .before .loop .inv .0,
+  omega arith,
+  failing-next _ _ _ _ (omega arith) _ (c .before .task-passes .ensures) (c .if2 .left) (c .before .before .before .before .before .loop .inv .2),
 )
 
+-- src/lib.rt:51:1
 returns-2 : tie.Need-returns-2 Inv-loop μ-loop
-returns-2 c = failing-over _ _ _ _ (omega arith) (c .before .loop .inv .3)
+returns-2 c = failing-over _ _ _ _ (omega arith) (c .before .before .loop .inv .2)
 
 pub first-failing-task-spec : {M : Type 1} → statement M
 first-failing-task-spec =
@@ -84,9 +95,8 @@ first-failing-task-spec =
     Inv-loop
     μ-loop
     inner-ceilings-requires
-    task-loads-requires
-    index-requires
     loop-holds
+    index-requires
     task-passes-requires
     add-result
     cast-result

@@ -1,7 +1,8 @@
-use native.Mathlib.Omega.{arith}
+-- `printing::print_text` is safe: what the text takes lies within the lent buffer. Assumes nothing.
 use mathlib.Core.Path.{sym}
 use lib.Seq.{length-take-le}
 use Rattle.printing.proofs.Within.{printed-within}
+use native.Mathlib.Omega.{arith}
 use borrow.Author.Needs.{needs}
 use Rattle.printing.proofs.print_text.Statement.{statement}
 use Rattle.printing.proofs.print_text.Tie as tie
@@ -9,10 +10,6 @@ use Rattle.printing.proofs.print_text.Reads as reads
 use Rattle.printing.proofs.print_text.Lts as lts
 use Rattle.io.proofs.write_all.Reads as write-all-reads
 use Rattle.text.proofs.check_text.Reads as check-text-reads
-
--- src/lib.rt:10:42
-slice-aggregate-check-text : tie.Need-slice-aggregate-check-text
-slice-aggregate-check-text c = search needs
 
 -- src/lib.rt:10:9
 check-text-requires : tie.Need-check-text-requires
@@ -23,12 +20,12 @@ enum-known-printed : tie.Need-enum-known-printed
 enum-known-printed c = search needs
 
 -- src/lib.rt:12:38
-array-share-prefix-buf : tie.Need-array-share-prefix-buf
-array-share-prefix-buf c =
+slice-reshare-prefix-write-all : tie.Need-slice-reshare-prefix-write-all
+slice-reshare-prefix-write-all c =
     omega (
       arith,
-      printed-within _ _ _ _ (c .before .before .before .before .check-text .ensures .answered) (c .before .printed .given .1),
-      c .before .before .before .before .check-text .kept .1 .0,
+      printed-within _ _ _ _ (c .before .before .before .before .before .check-text .ensures .answered) (c .before .printed .given .1),
+      c .before .before .before .before .before .check-text .kept .1,
     )
 
 -- src/lib.rt:12:38
@@ -38,8 +35,8 @@ slice-aggregate-write-all c =
     (length-take-le _ _
     (omega (
       arith,
-      printed-within _ _ _ _ (c .before .before .before .before .before .check-text .ensures .answered) (c .before .before .printed .given .1),
-      c .before .before .before .before .before .check-text .kept .1 .0,
+      printed-within _ _ _ _ (c .before .before .before .before .before .before .check-text .ensures .answered) (c .before .before .printed .given .1),
+      c .before .before .before .before .before .before .check-text .kept .1,
     )))
 
 -- src/lib.rt:12:9
@@ -49,11 +46,19 @@ write-all-requires c κs = search needs
 enum-told : tie.Need-enum-told
 enum-told c = search needs
 
--- src/lib.rt:6:1
+-- src/lib.rt:7:1
+same-length : tie.Need-same-length
+same-length c = search needs
+
+-- src/lib.rt:7:1
 returns : tie.Need-returns
 returns c = search needs
 
--- src/lib.rt:6:1
+-- src/lib.rt:7:1
+same-length-2 : tie.Need-same-length-2
+same-length-2 c = search needs
+
+-- src/lib.rt:7:1
 returns-2 : tie.Need-returns-2
 returns-2 c = search needs
 
@@ -61,12 +66,13 @@ pub print-text-spec : {M : Type 1} → statement M
 print-text-spec =
     tie.close
     (tie.spec
-    slice-aggregate-check-text
     check-text-requires
     enum-known-printed
-    array-share-prefix-buf
+    slice-reshare-prefix-write-all
     slice-aggregate-write-all
     write-all-requires
     enum-told
+    same-length
     returns
+    same-length-2
     returns-2)

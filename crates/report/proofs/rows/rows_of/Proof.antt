@@ -19,7 +19,7 @@ use Rattle.report.proofs.rows.rows_of.Reads as reads
 use Rattle.report.proofs.rows.rows_of.Lts as lts
 use Rattle.global.proofs.in_common.Reads as in-common-reads
 use Rattle.global.proofs.row_of.Reads as row-of-reads
-use Rattle.local.proofs.first_failing_task.Reads as first-failing-task-reads
+use Rattle.report.proofs.rows.failing_in.Reads as failing-in-reads
 use Rattle.numbers.proofs.index.Reads as index-reads
 use Rattle.report.proofs.interface.interfaces_of.Reads as interfaces-of-reads
 use Rattle.report.proofs.rows.no_row.Reads as no-row-reads
@@ -82,8 +82,8 @@ sub-end-2 c =
     omega (arith, cost-between (c .before .before .before .before .before .before .before .before .before .before .before .args .t1) (meaningOf (c .before .before .before .before .before .before .before .before .interfaces-of .result)) (c .before .before .before .before .loop .s) (c .before .before .before .before .before .before .before .before .before .index2 .result) (getD (c .before .before .before .before .before .before .before .in-common .result .costs) (c .before .before .before .before .loop .s) 0) (sound-slot (c .before .before .before .before .before .before .before .before .before .before .before .args .t1) (c .before .before .before .before .loop .s) (c .before .before .before .before .before .before .before .before .before .index2 .result) (c .before .before .before .before .before .before .before .before .before .before .before .pre) (omega arith) (c .before .before .before .before .loop .inv .1)) (c .before .before .before .before .before .before .before .before .interfaces-of .ensures) (omega arith) (c .before .before .before .before .loop .inv .1) (ap (λ (w : Common). getD (w .costs) (c .before .before .before .before .loop .s) 0) (c .before .before .before .before .before .before .before .in-common .ensures)) .1)
 
 -- src/rows.rt:44:13
-first-failing-task-requires : tie.Need-first-failing-task-requires Inv-loop μ-loop
-first-failing-task-requires c κs =
+failing-in-requires : tie.Need-failing-in-requires Inv-loop μ-loop
+failing-in-requires c κs =
     rw (end-by-cost (c .before .before .before .before .before .before .before .before .before .before .before .args .t1) (meaningOf (c .before .before .before .before .before .before .before .before .interfaces-of .result)) (c .before .before .before .before .loop .s) (c .before .before .before .before .before .before .before .before .before .index2 .result) (getD (c .before .before .before .before .before .before .before .in-common .result .costs) (c .before .before .before .before .loop .s) 0) (c .before .before .before .before .before .before .before .before .interfaces-of .ensures) (omega arith) (c .before .before .before .before .loop .inv .1) (ap (λ (w : Common). getD (w .costs) (c .before .before .before .before .loop .s) 0) (c .before .before .before .before .before .before .before .in-common .ensures))) (ready _ _ (sound-slot (c .before .before .before .before .before .before .before .before .before .before .before .args .t1) (c .before .before .before .before .loop .s) (c .before .before .before .before .before .before .before .before .before .index2 .result) (c .before .before .before .before .before .before .before .before .before .before .before .pre) (omega arith) (c .before .before .before .before .loop .inv .1)))
 
 -- src/rows.rt:45:48
@@ -124,7 +124,7 @@ loop-again c = (
   search needs,
   search needs,
   row-filled (c .before .before .before .before .before .before .before .before .before .before .before .before .before .args .t1) (meaningOf (c .before .before .before .before .before .before .before .before .before .before .interfaces-of .result)) (c .before .before .before .before .before .before .loop .s) (c .before .before .before .before .before .before .before .before .before .before .before .index2 .result) _ _ _ (c .before .before .before .before .before .before .before .before .before .before .interfaces-of .ensures) (omega arith) (omega arith) (c .before .before .before .before .before .before .loop .inv .1)
-      (c .before .first-failing-task .ensures ∙ ap (λ (end : ℕ). firstFailing (c .before .before .before .before .before .before .before .before .before .before .before .index2 .result) (subsystemM (c .before .before .before .before .before .before .before .before .before .before .before .index2 .result) (getD ((c .before .before .before .before .before .before .before .before .before .before .before .before .before .args .t1) .subsystems) (c .before .before .before .before .before .before .loop .s) pastSubsystems)) end) (end-by-cost (c .before .before .before .before .before .before .before .before .before .before .before .before .before .args .t1) (meaningOf (c .before .before .before .before .before .before .before .before .before .before .interfaces-of .result)) (c .before .before .before .before .before .before .loop .s) (c .before .before .before .before .before .before .before .before .before .before .before .index2 .result) (getD (c .before .before .before .before .before .before .before .before .before .in-common .result .costs) (c .before .before .before .before .before .before .loop .s) 0) (c .before .before .before .before .before .before .before .before .before .before .interfaces-of .ensures) (omega arith) (c .before .before .before .before .before .before .loop .inv .1) (ap (λ (w : Common). getD (w .costs) (c .before .before .before .before .before .before .loop .s) 0) (c .before .before .before .before .before .before .before .before .before .in-common .ensures))))
+      (c .before .failing-in .ensures ∙ ap (λ (end : ℕ). firstFailing (c .before .before .before .before .before .before .before .before .before .before .before .index2 .result) (subsystemM (c .before .before .before .before .before .before .before .before .before .before .before .index2 .result) (getD ((c .before .before .before .before .before .before .before .before .before .before .before .before .before .args .t1) .subsystems) (c .before .before .before .before .before .before .loop .s) pastSubsystems)) end) (end-by-cost (c .before .before .before .before .before .before .before .before .before .before .before .before .before .args .t1) (meaningOf (c .before .before .before .before .before .before .before .before .before .before .interfaces-of .result)) (c .before .before .before .before .before .before .loop .s) (c .before .before .before .before .before .before .before .before .before .before .before .index2 .result) (getD (c .before .before .before .before .before .before .before .before .before .in-common .result .costs) (c .before .before .before .before .before .before .loop .s) 0) (c .before .before .before .before .before .before .before .before .before .before .interfaces-of .ensures) (omega arith) (c .before .before .before .before .before .before .loop .inv .1) (ap (λ (w : Common). getD (w .costs) (c .before .before .before .before .before .before .loop .s) 0) (c .before .before .before .before .before .before .before .before .before .in-common .ensures))))
       (c .row-of .ensures) (c .before .before .before .before .before .before .loop .inv .4),
 )
 
@@ -150,7 +150,7 @@ rows-of-spec =
     array-read-end
     sub-end
     sub-end-2
-    first-failing-task-requires
+    failing-in-requires
     cast-row-of
     row-of-requires
     mul-rows

@@ -1,5 +1,6 @@
-use Prim.Native.Nat.{ℕ, _≤_, _<_, _-_, _*_}
-use mathlib.Core.Path.{_≡_, sym, ap, _∙_}
+-- `rules::holding::resource_holding` gives X(s, l): the largest over the tasks below i stands. Assumes nothing.
+use Prim.Native.Nat.{ℕ, _≤_, _<_, _-_}
+use mathlib.Core.Path.{_≡_, sym, _∙_}
 use Rattle.lists.specs.Range.{largestTo}
 use Rattle.lists.proofs.Over.{largestTo-zero}
 use Rattle.table.specs.Meaning.{subsystemM}
@@ -17,69 +18,69 @@ use Rattle.rules.proofs.holding.with_above.Reads as with-above-reads
 use Rattle.rules.proofs.holding.work_above.Reads as work-above-reads
 
 abbrev Inv-loop : tie.InvT-loop
-Inv-loop m l sub above n most₀ i₀ most i =
-    (most ≡ largestTo (taskHolding (subsystemM m sub) l) i) × (i ≤ n) × (n ≡ sub .count) × (most < 38654705664)
+Inv-loop sub m l works accesses above most₀ i₀ most i =
+    (most ≡ largestTo (taskHolding (subsystemM m sub) l) i) × (i ≤ sub .count) × (most < 38654705664)
 
 abbrev μ-loop : tie.MeasureT-loop
-μ-loop m l sub above n most₀ i₀ most i = n - i
+μ-loop sub m l works accesses above most₀ i₀ most i = sub .count - i
 
--- src/holding.rt:50:9
+-- src/holding.rt:80:9
 work-above-requires : tie.Need-work-above-requires Inv-loop μ-loop
 work-above-requires c κs = search needs
 
--- src/holding.rt:51:9
+-- src/holding.rt:83:5
+loop-holds : tie.Need-loop-holds Inv-loop μ-loop
+loop-holds c = (sym (largestTo-zero _), search needs, search needs)
+
+-- src/holding.rt:83:15
 index-requires : tie.Need-index-requires Inv-loop μ-loop
 index-requires c κs = search needs
 
--- src/holding.rt:54:5
-loop-holds : tie.Need-loop-holds Inv-loop μ-loop
-loop-holds c = (sym (largestTo-zero _), search needs, search needs, search needs)
-
--- src/holding.rt:55:20
-mul-task : tie.Need-mul-task Inv-loop μ-loop
-mul-task c = search needs
-
--- src/holding.rt:55:20
-element-copy-out-task : tie.Need-element-copy-out-task Inv-loop μ-loop
-element-copy-out-task c = search needs
-
--- src/holding.rt:56:49
+-- src/holding.rt:84:49
 mul-with-above : tie.Need-mul-with-above Inv-loop μ-loop
 mul-with-above c = search needs
 
--- src/holding.rt:56:49
-element-copy-out-with-above : tie.Need-element-copy-out-with-above Inv-loop μ-loop
-element-copy-out-with-above c = search needs
+-- src/holding.rt:84:49
+mul-with-above-2 : tie.Need-mul-with-above-2 Inv-loop μ-loop
+mul-with-above-2 c = search needs
 
--- src/holding.rt:56:38
+-- src/holding.rt:84:49
+index-1-with-above : tie.Need-index-1-with-above Inv-loop μ-loop
+index-1-with-above c = search needs
+
+-- src/holding.rt:84:49
+index-2-with-above : tie.Need-index-2-with-above Inv-loop μ-loop
+index-2-with-above c = search needs
+
+-- src/holding.rt:84:38
 with-above-requires : tie.Need-with-above-requires Inv-loop μ-loop
 with-above-requires c κs = search needs
 
--- src/holding.rt:56:9
+-- src/holding.rt:84:9
 larger-requires : tie.Need-larger-requires Inv-loop μ-loop
 larger-requires c κs = search needs
 
--- src/holding.rt:57:9
+-- src/holding.rt:85:9
 add-i : tie.Need-add-i Inv-loop μ-loop
 add-i c = search needs
 
--- src/holding.rt:54:5
+-- src/holding.rt:83:5
 loop-less : tie.Need-loop-less Inv-loop μ-loop
 loop-less c = search needs
 
--- src/holding.rt:54:5
+-- src/holding.rt:83:5
 loop-again : tie.Need-loop-again Inv-loop μ-loop
-loop-again c = (
-  c .larger .ensures ∙
-      holding-turn _ _ _ _ (omega arith) (search needs) _ _ _ (c .before .before .before .before .before .before .before .work-above .ensures .0) (c .before .before .before .before .before .loop .inv .0) (c .before .with-above .ensures .0),
-  omega arith,
-  search needs,
-  omega (arith, c .before .with-above .ensures .1),
-)
+loop-again c =
+    let s : tie.Start Inv-loop μ-loop = c .before .before .before .before .before .before .before in (
+      c .larger .ensures
+          ∙ holding-turn _ _ _ _ (s .pre .1 .1) _ (omega arith) (search needs) _ _ _ (c .before .before .before .before .before .before .work-above .ensures .0) (c .before .before .before .before .before .loop .inv .0) (c .before .with-above .ensures .0),
+      omega arith,
+      omega (arith, c .larger .ensures, c .before .with-above .ensures .1),
+    )
 
--- src/holding.rt:46:1
+-- src/holding.rt:69:1
 returns : tie.Need-returns Inv-loop μ-loop
-returns c = (c .before .loop .inv .0 ∙ resource-holding-is _ _ _ _ (omega arith), omega arith)
+returns c = (c .before .before .loop .inv .0 ∙ resource-holding-is _ _ _ _ (omega arith), omega arith)
 
 pub resource-holding-spec : {M : Type 1} → statement M
 resource-holding-spec =
@@ -88,12 +89,12 @@ resource-holding-spec =
     Inv-loop
     μ-loop
     work-above-requires
-    index-requires
     loop-holds
-    mul-task
-    element-copy-out-task
+    index-requires
     mul-with-above
-    element-copy-out-with-above
+    mul-with-above-2
+    index-1-with-above
+    index-2-with-above
     with-above-requires
     larger-requires
     add-i

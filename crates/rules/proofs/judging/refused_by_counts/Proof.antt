@@ -1,7 +1,8 @@
+-- `rules::judging::refused_by_counts` judges each n: the subsystems below s have passed. Assumes nothing.
 use Prim.Native.Nat.{_≤_, _-_}
 use mathlib.Core.Path.{_≡_, refl}
-use Rattle.rules.proofs.JudgingLaws.{OffendersFrom, offenders-from-zero, offenders-over, refused-here, passed-here, spot-of-counts, nowhere-of-counts}
 use Rattle.rules.specs.declared.Rule.the-variants.{Counts}
+use Rattle.rules.proofs.JudgingLaws.{OffendersFrom, offenders-from-zero, offenders-over, offender-here, offenders-next, counts-here, counts-nowhere}
 use borrow.Author.Needs.{needs}
 use native.Mathlib.Omega.{arith}
 use Rattle.rules.proofs.judging.refused_by_counts.Statement.{statement}
@@ -17,58 +18,54 @@ Inv-loop t n s₀ s = (n ≡ t .count) × (s ≤ n) × OffendersFrom t Counts s
 abbrev μ-loop : tie.MeasureT-loop
 μ-loop t n s₀ s = n - s
 
--- src/judging.rt:67:9
+-- src/judging.rt:22:9
 index-requires : tie.Need-index-requires Inv-loop μ-loop
 index-requires c κs = search needs
 
--- src/judging.rt:69:5
+-- src/judging.rt:24:5
 loop-holds : tie.Need-loop-holds Inv-loop μ-loop
 loop-holds c = (search needs, search needs, offenders-from-zero _ _)
 
--- src/judging.rt:70:19
-mul-sub : tie.Need-mul-sub Inv-loop μ-loop
-mul-sub c = search needs
+-- src/judging.rt:25:21
+mul-count : tie.Need-mul-count Inv-loop μ-loop
+mul-count c = search needs
 
--- src/judging.rt:70:19
-element-copy-out-sub : tie.Need-element-copy-out-sub Inv-loop μ-loop
-element-copy-out-sub c = search needs
+-- src/judging.rt:25:13
+element-copy-out-count : tie.Need-element-copy-out-count Inv-loop μ-loop
+element-copy-out-count c = search needs
 
--- src/judging.rt:71:9
+-- src/judging.rt:26:9
 add-s : tie.Need-add-s Inv-loop μ-loop
 add-s c = search needs
 
--- src/judging.rt:72:12
+-- src/judging.rt:27:12
 count-out-requires : tie.Need-count-out-requires Inv-loop μ-loop
 count-out-requires c κs = search needs
 
--- src/judging.rt:73:29
+-- src/judging.rt:28:29
 cast-subsystem : tie.Need-cast-subsystem Inv-loop μ-loop
 cast-subsystem c = search needs
 
--- src/judging.rt:74:13
+-- src/judging.rt:29:13
 returns : tie.Need-returns Inv-loop μ-loop
 returns c =
-    let a = c .before .before .before .before .before .before .args in
-    refused-here (a .t1) Counts (c .before .before .before .before .loop .s) (a .t1 .resources) (omega arith) refl _ (spot-of-counts (a .t1 .resources) _ _ (c .before .count-out .ensures) (c .if1 .taken)) 0 refl (c .before .before .before .before .loop .inv .2)
+    offender-here _ Counts _ 0 (omega arith) (counts-here _ _ _ (c .before .count-out .ensures) (c .if1 .taken)) (c .before .before .before .loop .inv .2)
 
--- src/judging.rt:69:5
+-- src/judging.rt:24:5
 loop-less : tie.Need-loop-less Inv-loop μ-loop
 loop-less c = search needs
 
--- src/judging.rt:69:5
+-- src/judging.rt:24:5
 loop-again : tie.Need-loop-again Inv-loop μ-loop
-loop-again c =
-    let a = c .before .before .before .before .before .before .args in (
-      search needs,
-      search needs,
-      passed-here (a .t1) Counts (c .before .before .before .before .loop .s) (a .t1 .resources) (omega arith) refl _ (nowhere-of-counts (a .t1 .resources) _ _ (c .before .count-out .ensures) (c .if1 .left)) refl (c .before .before .before .before .loop .inv .2),
-    )
+loop-again c = (
+  search needs,
+  search needs,
+  offenders-next _ Counts _ (omega arith) (counts-nowhere _ _ _ (c .before .count-out .ensures) (c .if1 .left)) (c .before .before .before .loop .inv .2),
+)
 
--- src/judging.rt:63:1
+-- src/judging.rt:18:1
 returns-2 : tie.Need-returns-2 Inv-loop μ-loop
-returns-2 c =
-    let a = c .before .before .before .args in
-    offenders-over (a .t1) Counts _ (omega arith) (c .before .loop .inv .2)
+returns-2 c = offenders-over _ Counts _ (omega arith) (c .before .loop .inv .2)
 
 pub refused-by-counts-spec : {M : Type 1} → statement M
 refused-by-counts-spec =
@@ -78,8 +75,8 @@ refused-by-counts-spec =
     μ-loop
     index-requires
     loop-holds
-    mul-sub
-    element-copy-out-sub
+    mul-count
+    element-copy-out-count
     add-s
     count-out-requires
     cast-subsystem

@@ -14,7 +14,7 @@ use Rattle.text.proofs.refused.put_refused_table.Reads as reads
 use Rattle.text.proofs.refused.put_refused_table.Lts as lts
 use Rattle.lines.proofs.put_bytes.Reads as put-bytes-reads
 use Rattle.text.proofs.line.put_figure.Reads as put-figure-reads
-use Rattle.text.proofs.refused.rule_number.Reads as rule-number-reads
+use Rattle.rules.proofs.places.rule_number.Reads as rule-number-reads
 
 -- The run of writes so far, behind each figure.
 abbrev Wrote-so-far : tie.Start → ℕ → List ℕ → List ℕ → ℕ → Type 0
