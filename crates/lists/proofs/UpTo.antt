@@ -48,6 +48,10 @@ module _ {A : Type 0} where
       let e : most - n ≡ suc (most - suc n) = omega arith in
       rw (e, add-one) (set-at (upTo f n) d (replicate (most - suc n) d) (f n) n (length-upTo f n) ∙ sym (append-assoc (upTo f n) (f n ∷ []) (replicate (most - suc n) d)))
 
+  -- The turn of a loop that fills an array.
+  pub padded-turn : (f : ℕ → A) (d : A) (most n : ℕ) → n < most → (xs : List A) (x : A) → xs ≡ padded f d most n → x ≡ f n → set xs n x ≡ padded f d most (n + 1)
+  padded-turn f d most n h xs x e g = rw (e, g) (padded-set f d most n h)
+
   pub getD-padded : (f : ℕ → A) (d z : A) (most n i : ℕ) → i < n → getD (padded f d most n) i z ≡ f i
   unfolding padded
   getD-padded f d z most n i h =

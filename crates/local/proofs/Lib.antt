@@ -1,5 +1,4 @@
 -- Laws of steps 3 and 5, by subject.
-pub mod Filling
 pub mod BlockingLaws
 pub mod PassingLaws
 pub mod TaskLaws

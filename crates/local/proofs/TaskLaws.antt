@@ -8,6 +8,7 @@ use native.Mathlib.Omega.{arith}
 use lib.ListN.{getD, length}
 use Rattle.lists.specs.Range.{sumTo}
 use Rattle.lists.proofs.Over.{sumTo-ext}
+use Rattle.lists.proofs.UpTo.{length-padded}
 use Rattle.least.specs.Up.{up}
 use Rattle.least.specs.Demand.{loadIn, demand, total}
 use Rattle.least.specs.Search.{Loads}
@@ -15,7 +16,7 @@ use Rattle.table.specs.declared.Subsystem.{Subsystem}
 use Rattle.table.specs.Limits.{most, largest}
 use Rattle.table.specs.Meaning.{subsystemM}
 use Rattle.table.specs.Parts.{taskOf, workOf}
-use Rattle.table.specs.Columns.{Columns, Separations, Works}
+use Rattle.table.specs.Columns.{Columns, separationAt, workAt}
 use Rattle.table.proofs.Parts.{count-of-tasks}
 use Rattle.table.proofs.ColumnLaws.{separation-in-column, work-in-column, deadline-in-column}
 use Rattle.rules.specs.Admitted.{SoundTask, SoundSubsystem}
@@ -66,12 +67,11 @@ module _ (m : ℕ) (sub : Subsystem) (sound : SoundSubsystem m (subsystemM m sub
 
     -- The tasks above task i are loads.
     pub tasks-are-loads : (i : ℕ) → i ≤ sub .count → Loads separations works i
-    unfolding Separations Works
     tasks-are-loads i h =
         record {
           few = omega (arith, tasks-within);
-          with-period = omega (arith, c .separations-are .whole, tasks-within);
-          with-cost = omega (arith, c .works-are .whole, tasks-within);
+          with-period = omega (arith, ap length (c .separations-are), length-padded (separationAt sub) 0 most (sub .count) tasks-within, tasks-within);
+          with-cost = omega (arith, ap length (c .works-are), length-padded (workAt sub) 0 most (sub .count) tasks-within, tasks-within);
           period-pos = λ j l. task-within j (omega arith) .separation-least;
           cost-small = λ j l. omega (arith, task-within j (omega arith) .work-most);
         }

@@ -50,11 +50,6 @@ module _ (sub : Subsystem) (m : ℕ) (sound : SoundSlot sub m) where
         sound .sound .period-most,
       )
 
--- A turn of filling in holding times.
-pub holding-filled :
-    (f : ℕ → ℕ) (l x : ℕ) (hs : List ℕ) → l < most → hs ≡ padded f 0 most l → x ≡ f l → set hs l x ≡ padded f 0 most (l + 1)
-holding-filled f l x hs h e q = rw (e, q) (padded-set f 0 most l h)
-
 -- The interface with all of them filled in is the subsystem's.
 pub interface-filled :
     (sub : Subsystem) (m : ℕ) (hs : List ℕ) → hs ≡ padded (resourceHolding (subsystemM m sub)) 0 most m →

@@ -1,9 +1,10 @@
 -- A subsystem's tasks by columns: one array for each kind of number. Functions that look at one number of each task take
 -- a column by reference. Assumes nothing.
-use Prim.Native.Nat.{ℕ, _<_}
+use Prim.Native.Nat.{ℕ}
 use mathlib.Core.Path.{_≡_}
-use mathlib.Core.List.{List, []}
-use lib.ListN.{length, getD}
+use mathlib.Core.List.{List}
+use lib.ListN.{getD, replicate}
+use Rattle.lists.specs.Range.{padded}
 use Rattle.table.specs.declared.Subsystem.{Subsystem}
 use Rattle.table.specs.Limits.{most}
 use Rattle.table.specs.Meaning.{pastTasks}
@@ -21,27 +22,22 @@ deadlineAt sub i = getD (sub .tasks) i pastTasks .deadline
 unfoldable pub accessesAt : Subsystem → ℕ → List ℕ
 accessesAt sub i = getD (sub .tasks) i pastTasks .access
 
--- A column has a place for each slot; its first n places hold what f says, the rest may hold anything.
-pub record Column {A : Type 0} (f : ℕ → A) (past : A) (n : ℕ) (column : List A) : Type 0 where
-  pub whole : length column ≡ most
-  pub are : (i : ℕ) → i < n → getD column i past ≡ f i
-
 -- The number at a place of a column.
 unfoldable pub inColumn : List ℕ → ℕ → ℕ
 inColumn column i = getD column i 0
 
--- Each column by itself, as far as the tasks in use go.
-unfoldable pub Separations : Subsystem → List ℕ → Type 0
-Separations sub column = Column (separationAt sub) 0 (sub .count) column
+-- Each column by itself: a place for each slot, filled as far as the tasks in use go, and zeros behind.
+abbrev pub Separations : Subsystem → List ℕ → Type 0
+Separations sub column = column ≡ padded (separationAt sub) 0 most (sub .count)
 
-unfoldable pub Works : Subsystem → List ℕ → Type 0
-Works sub column = Column (workAt sub) 0 (sub .count) column
+abbrev pub Works : Subsystem → List ℕ → Type 0
+Works sub column = column ≡ padded (workAt sub) 0 most (sub .count)
 
-unfoldable pub Deadlines : Subsystem → List ℕ → Type 0
-Deadlines sub column = Column (deadlineAt sub) 0 (sub .count) column
+abbrev pub Deadlines : Subsystem → List ℕ → Type 0
+Deadlines sub column = column ≡ padded (deadlineAt sub) 0 most (sub .count)
 
-unfoldable pub Accesses : Subsystem → List (List ℕ) → Type 0
-Accesses sub column = Column (accessesAt sub) [] (sub .count) column
+abbrev pub Accesses : Subsystem → List (List ℕ) → Type 0
+Accesses sub column = column ≡ padded (accessesAt sub) (replicate most 0) most (sub .count)
 
 -- All four.
 pub record Columns (sub : Subsystem) (separations works deadlines : List ℕ) (accesses : List (List ℕ)) : Type 0 where

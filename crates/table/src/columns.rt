@@ -2,13 +2,13 @@
 // by reference, and no subsystem is copied for it. Assumes nothing.
 ghost use mathlib.Core.Path.{_≡_};
 ghost use Prim.Native.Nat.{_≤_};
-ghost use lib.ListN.{length};
+ghost use lib.ListN.{replicate};
 ghost use Rattle.table.specs.Limits.{most};
 ghost use Rattle.table.specs.Columns.{Columns};
 use crate::Subsystem;
 use crate::Table;
 
-// Fills the columns as far as the tasks in use go; what stands behind stays.
+// Fills columns of zeros as far as the tasks in use go.
 pub fn take_columns(
     sub: Subsystem,
     separations: &mut [u32; Table::MOST],
@@ -17,7 +17,7 @@ pub fn take_columns(
     accesses: &mut [[u32; Table::MOST]; Table::MOST],
 )
     requires { ⌜ sub .count ≤ most ⌝ }
-    requires { ⌜ (length (now separations) ≡ most) × (length (now works) ≡ most) × (length (now deadlines) ≡ most) × (length (now accesses) ≡ most) ⌝ }
+    requires { ⌜ (now separations ≡ replicate most 0) × (now works ≡ replicate most 0) × (now deadlines ≡ replicate most 0) × (now accesses ≡ replicate most (replicate most 0)) ⌝ }
     ensures { λ _. ⌜ Columns sub (now (separations .exit)) (now (works .exit)) (now (deadlines .exit)) (now (accesses .exit)) ⌝ }
 {
     let n = sub.count as usize;

@@ -2,11 +2,10 @@
 use Prim.Native.Nat.{ℕ, _≤_, _-_}
 use mathlib.Core.Path.{_≡_, sym, ap, _∙_}
 use Rattle.lists.specs.Range.{padded}
-use Rattle.lists.proofs.UpTo.{padded-none}
+use Rattle.lists.proofs.UpTo.{padded-none, padded-turn}
 use Rattle.table.specs.Limits.{most}
 use Rattle.table.specs.Meaning.{subsystemM}
 use Rattle.rules.specs.Holding.{innerCeiling}
-use Rattle.local.proofs.Filling.{padded-turn}
 use borrow.Author.Needs.{needs}
 use native.Mathlib.Omega.{arith}
 use Rattle.local.proofs.blocking.inner_ceilings.Statement.{statement}

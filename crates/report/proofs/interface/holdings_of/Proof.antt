@@ -2,11 +2,11 @@
 use Prim.Native.Nat.{_≤_, _-_}
 use mathlib.Core.Path.{_≡_, sym, ap, _∙_}
 use Rattle.lists.specs.Range.{padded}
-use Rattle.lists.proofs.UpTo.{padded-none}
+use Rattle.lists.proofs.UpTo.{padded-none, padded-turn}
 use Rattle.table.specs.Limits.{most}
 use Rattle.table.specs.Meaning.{subsystemM}
 use Rattle.rules.specs.Holding.{resourceHolding}
-use Rattle.report.proofs.InterfaceLaws.{slots, holding-small, holding-filled}
+use Rattle.report.proofs.InterfaceLaws.{slots, holding-small}
 use borrow.Author.Needs.{needs}
 use native.Mathlib.Omega.{arith}
 use Rattle.report.proofs.interface.holdings_of.Statement.{statement}
@@ -61,7 +61,7 @@ loop-less c = search needs
 -- src/interface.rt:32:5
 loop-again : tie.Need-loop-again Inv-loop μ-loop
 loop-again c = (
-  holding-filled _ _ _ _ (omega (arith, c .before .before .before .pre .0 .resources-most)) (c .before .before .loop .inv .0) (c .resource-holding .ensures .0),
+  padded-turn _ _ _ _ (omega (arith, c .before .before .before .pre .0 .resources-most)) _ _ (c .before .before .loop .inv .0) (c .resource-holding .ensures .0),
   search needs,
 )
 

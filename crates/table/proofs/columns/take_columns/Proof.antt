@@ -1,9 +1,11 @@
 -- `table::columns::take_columns` fills the columns: those of the tasks below i are filled. Assumes nothing.
 use Prim.Native.Nat.{ℕ, _≤_, _-_}
-use mathlib.Core.Path.{_≡_, refl}
-use mathlib.Core.List.{[]}
-use Rattle.table.specs.Columns.{Column, Columns, Separations, Works, Deadlines, Accesses, separationAt, workAt, deadlineAt, accessesAt}
-use Rattle.table.proofs.ColumnLaws.{column-none, column-turn, column-all}
+use mathlib.Core.Path.{_≡_, refl, sym, ap, _∙_}
+use lib.ListN.{replicate}
+use Rattle.lists.specs.Range.{padded}
+use Rattle.lists.proofs.UpTo.{padded-none, padded-turn}
+use Rattle.table.specs.Limits.{most}
+use Rattle.table.specs.Columns.{Columns, separationAt, workAt, deadlineAt, accessesAt}
 use borrow.Author.Needs.{needs}
 use native.Mathlib.Omega.{arith}
 use Rattle.table.proofs.columns.take_columns.Statement.{statement}
@@ -13,7 +15,8 @@ use Rattle.table.proofs.columns.take_columns.Lts as lts
 
 abbrev Inv-loop : tie.InvT-loop
 Inv-loop separations₀ works₀ deadlines₀ accesses₀ sub n i₀ separations works deadlines accesses i =
-    (n ≡ sub .count) × (i ≤ n) × Column (separationAt sub) 0 i separations × Column (workAt sub) 0 i works × Column (deadlineAt sub) 0 i deadlines × Column (accessesAt sub) [] i accesses
+    (n ≡ sub .count) × (i ≤ n) × (separations ≡ padded (separationAt sub) 0 most i) × (works ≡ padded (workAt sub) 0 most i)
+    × (deadlines ≡ padded (deadlineAt sub) 0 most i) × (accesses ≡ padded (accessesAt sub) (replicate most 0) most i)
 
 abbrev μ-loop : tie.MeasureT-loop
 μ-loop separations₀ works₀ deadlines₀ accesses₀ sub n i₀ separations works deadlines accesses i = n - i
@@ -24,7 +27,14 @@ cast-n c = search needs
 
 -- src/columns.rt:22:5
 loop-holds : tie.Need-loop-holds Inv-loop μ-loop
-loop-holds c = (search needs, search needs, column-none _ _ _ (c .pre .1 .0), column-none _ _ _ (c .pre .1 .1), column-none _ _ _ (c .pre .1 .2), column-none _ _ _ (c .pre .1 .3))
+loop-holds c = (
+  search needs,
+  search needs,
+  c .pre .1 .0 ∙ sym (padded-none _ 0 most),
+  c .pre .1 .1 ∙ sym (padded-none _ 0 most),
+  c .pre .1 .2 ∙ sym (padded-none _ 0 most),
+  c .pre .1 .3 ∙ sym (padded-none _ _ most),
+)
 
 -- src/columns.rt:23:20
 mul-task : tie.Need-mul-task Inv-loop μ-loop
@@ -81,22 +91,22 @@ loop-again c =
     let i = c .before .before .before .loop .inv in (
       search needs,
       search needs,
-      column-turn _ _ _ _ _ (omega arith) (i .2) refl,
-      column-turn _ _ _ _ _ (omega arith) (i .3) refl,
-      column-turn _ _ _ _ _ (omega arith) (i .4) refl,
-      column-turn _ _ _ _ _ (omega arith) (i .5) refl,
+      padded-turn _ _ _ _ (omega arith) _ _ (i .2) refl,
+      padded-turn _ _ _ _ (omega arith) _ _ (i .3) refl,
+      padded-turn _ _ _ _ (omega arith) _ _ (i .4) refl,
+      padded-turn _ _ _ _ (omega arith) _ _ (i .5) refl,
     )
 
 -- src/columns.rt:10:1
 returns : tie.Need-returns Inv-loop μ-loop
-unfolding Separations Works Deadlines Accesses
 returns c =
     let i = c .before .loop .inv in
+    let all : c .before .loop .i ≡ c .before .before .args .t1 .count = omega arith in
     record {
-      separations-are = column-all _ _ _ _ _ (omega arith) (i .2);
-      works-are = column-all _ _ _ _ _ (omega arith) (i .3);
-      deadlines-are = column-all _ _ _ _ _ (omega arith) (i .4);
-      accesses-are = column-all _ _ _ _ _ (omega arith) (i .5);
+      separations-are = i .2 ∙ ap (padded _ _ most) all;
+      works-are = i .3 ∙ ap (padded _ _ most) all;
+      deadlines-are = i .4 ∙ ap (padded _ _ most) all;
+      accesses-are = i .5 ∙ ap (padded _ _ most) all;
     }
 
 pub take-columns-spec : {M : Type 1} → statement M
