@@ -2,3 +2,4 @@
 pub mod First
 pub mod Over
 pub mod UpTo
+pub mod Turn

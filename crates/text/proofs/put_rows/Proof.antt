@@ -1,5 +1,6 @@
 use Prim.Native.Nat.{_-_, _≤_}
 use borrow.Author.Needs.{needs}
+use Rattle.lists.proofs.Turn.{turn-within, turn-less}
 use Rattle.text.proofs.RowsLaws.{RowsTo, rows-begin, room-for-row, rows-go-on, rows-end, rows-length}
 use native.Mathlib.Omega.{arith}
 use Rattle.text.proofs.put_rows.Statement.{statement}
@@ -39,14 +40,14 @@ add-s c = search needs
 
 -- src/lib.rt:49:5
 loop-less : tie.Need-loop-less Inv-loop μ-loop
-loop-less c = search needs
+loop-less c = turn-less _ _ (c .before .before .before .before .before .loop-test .taken)
 
 -- src/lib.rt:49:5
 loop-again : tie.Need-loop-again Inv-loop μ-loop
 loop-again c =
     let a = c .before .before .before .before .before .before .before .before in
     let l = c .before .before .before .before .before .before .loop in
-    (omega arith, rows-go-on (a .args .t3) (a .args .buf .now) (a .args .at) (l .s) (l .next) (l .buf) (a .pre .1) (omega arith) (l .inv .1) _ _ (c .before .before .put-row .ensures))
+    (turn-within _ _ (c .before .before .before .before .before .loop-test .taken), rows-go-on (a .args .t3) (a .args .buf .now) (a .args .at) (l .s) (l .next) (l .buf) (a .pre .1) (omega arith) (l .inv .1) _ _ (c .before .before .put-row .ensures))
 
 -- src/lib.rt:43:1
 same-length : tie.Need-same-length Inv-loop μ-loop

@@ -2,6 +2,7 @@
 use Prim.Native.Nat.{_≤_, _-_}
 use mathlib.Core.List.{flatMap}
 use lib.ListN.{length}
+use Rattle.lists.proofs.Turn.{turn-within, turn-less}
 use Rattle.lists.specs.Range.{upTo}
 use Rattle.stored.specs.Numbers.{numberSize}
 use Rattle.stored.specs.File.{numberBytes}
@@ -65,14 +66,14 @@ add-i : tie.Need-add-i Inv-loop μ-loop
 add-i c = search needs
 
 loop-less : tie.Need-loop-less Inv-loop μ-loop
-loop-less c = search needs
+loop-less c = turn-less _ _ (c .before .before .before .before .before .loop-test .taken)
 
 loop-again : tie.Need-loop-again Inv-loop μ-loop
 unfolding elementAt
 loop-again c =
     let a = c .before .before .before .before .before .before .before .before .before .args in
     let w = c .before .before .before .before .before .before .loop in (
-      search needs,
+      turn-within _ _ (c .before .before .before .before .before .loop-test .taken),
       list-goes-on numberBytes (elementAt 0 (a .numbers .now)) (a .free .now) (length (a .numbers .now)) (w .i) (w .at) (w .free) (c .before .before .before .before .before .loop-test .taken) (numbers-have-room (a .numbers .now) (a .free .now) (c .before .before .before .before .before .before .before .before .before .pre)) (w .inv .1) (c .before .before .put-number .last .0) (c .before .before .put-number .result) (c .before .before .put-number .ensures),
     )
 

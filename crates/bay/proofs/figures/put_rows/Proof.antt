@@ -3,6 +3,7 @@ use Prim.Native.Nat.{_≤_, _*_, _-_}
 use mathlib.Core.Path.{_≡_}
 use mathlib.Core.List.{flatMap}
 use lib.ListN.{length}
+use Rattle.lists.proofs.Turn.{turn-within, turn-less}
 use Rattle.lists.specs.Range.{upTo}
 use Rattle.table.specs.Limits.{most}
 use Rattle.report.specs.Report.{pastRows}
@@ -75,14 +76,14 @@ add-s : tie.Need-add-s Inv-loop μ-loop
 add-s c = search needs
 
 loop-less : tie.Need-loop-less Inv-loop μ-loop
-loop-less c = search needs
+loop-less c = turn-less _ _ (c .before .before .before .before .before .loop-test .taken)
 
 loop-again : tie.Need-loop-again Inv-loop μ-loop
 unfolding elementAt rowBytes
 loop-again c =
     let a = c .before .before .before .before .before .before .before .before .args in
     let w = c .before .before .before .before .before .before .loop in (
-      search needs,
+      turn-within _ _ (c .before .before .before .before .before .loop-test .taken),
       list-goes-on rowBytes (elementAt pastRows (a .t2)) (a .free .now) most (w .s) (w .at) (w .free) (c .before .before .before .before .before .loop-test .taken) (room (c .before .before .before .before .before .before .before .before)) (w .inv .1) (c .before .before .put-row .last .0) (c .before .before .put-row .result) (c .before .before .put-row .ensures),
     )
 

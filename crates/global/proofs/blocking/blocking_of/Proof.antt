@@ -6,6 +6,7 @@ use mathlib.Core.Path.{_≡_, ap, _∙_}
 use lib.ListN.{length}
 use denote.Ref.{now}
 use borrow.Author.Needs.{needs}
+use Rattle.lists.proofs.Turn.{turn-within, turn-less}
 use Rattle.lists.specs.Range.{largestTo}
 use Rattle.lists.proofs.UpTo.{length-upTo}
 use Rattle.global.specs.Interfaces.{meaningOf}
@@ -47,14 +48,14 @@ add-t-2 : tie.Need-add-t-2 Inv-loop μ-loop
 add-t-2 c = search needs
 
 loop-less : tie.Need-loop-less Inv-loop μ-loop
-loop-less c = search needs
+loop-less c = turn-less _ _ (c .before .before .before .loop-test .taken)
 
 loop-again : tie.Need-loop-again Inv-loop μ-loop
 loop-again c =
     let s = c .before .before .before .before .before .before in
     let h = c .before .before .before .before .loop in
     let here = blocking-by-slot (s .args .t1) (s .args .s) (now (s .args .ceilings)) (s .pre .1 .0) (h .t) (h .inv .0) (c .before .before .before .loop-test .taken) in
-    (omega arith, omega arith, largest-step (blockingBy (meaningOf (s .args .t1)) (s .args .s)) (h .t) (h .inv .2) (c .before .longest-reaching .ensures ∙ here) (c .larger .ensures))
+    (omega arith, turn-within _ _ (c .before .before .before .loop-test .taken), largest-step (blockingBy (meaningOf (s .args .t1)) (s .args .s)) (h .t) (h .inv .2) (c .before .longest-reaching .ensures ∙ here) (c .larger .ensures))
 
 returns : tie.Need-returns Inv-loop μ-loop
 returns c =

@@ -6,6 +6,7 @@ use mathlib.Core.Path.{_≡_, sym, ap, _∙_}
 use denote.Ref.{now}
 use lib.ListN.{length}
 use borrow.Author.Needs.{needs}
+use Rattle.lists.proofs.Turn.{turn-within, turn-less}
 use Rattle.global.proofs.MoreRange.{largest-step}
 use Rattle.lists.specs.Range.{largestTo}
 use Rattle.lists.proofs.Over.{largestTo-zero}
@@ -45,14 +46,14 @@ add-l : tie.Need-add-l Inv-loop μ-loop
 add-l c = search needs
 
 loop-less : tie.Need-loop-less Inv-loop μ-loop
-loop-less c = search needs
+loop-less c = turn-less _ _ (c .before .before .before .before .loop-test .taken)
 
 loop-again : tie.Need-loop-again Inv-loop μ-loop
 unfolding reachingIn holdingAt
 loop-again c =
     let s = c .before .before .before .before .before .before .before in
     let h = c .before .before .before .before .before .loop in
-    (omega arith, largest-step (reachingIn (s .args .t1) (now (s .args .ceilings)) (s .args .s)) (h .l) (h .inv .1) (c .before .counted .ensures) (c .larger .ensures))
+    (turn-within _ _ (c .before .before .before .before .loop-test .taken), largest-step (reachingIn (s .args .t1) (now (s .args .ceilings)) (s .args .s)) (h .l) (h .inv .1) (c .before .counted .ensures) (c .larger .ensures))
 
 returns : tie.Need-returns Inv-loop μ-loop
 returns c =

@@ -3,6 +3,7 @@ use Prim.Native.Nat.{_≤_, _-_}
 use native.Mathlib.Omega.{arith}
 use mathlib.Core.Path.{_≡_, sym, ap, _∙_}
 use borrow.Author.Needs.{needs}
+use Rattle.lists.proofs.Turn.{turn-within, turn-less}
 use Rattle.global.proofs.Slots.{filled-next, few-resources-of}
 use Rattle.lists.specs.Range.{padded}
 use Rattle.lists.proofs.UpTo.{padded-none}
@@ -34,13 +35,13 @@ add-l : tie.Need-add-l Inv-loop μ-loop
 add-l c = search needs
 
 loop-less : tie.Need-loop-less Inv-loop μ-loop
-loop-less c = search needs
+loop-less c = turn-less _ _ (c .before .if1 .taken)
 
 loop-again : tie.Need-loop-again Inv-loop μ-loop
 loop-again c =
     let s = c .before .before .before .before in
     let h = c .before .before .before .loop in
-    (omega arith, filled-next (outerCeiling (meaningOf (s .args .g))) _ (h .l) _ (h .inv .1) (c .outer-ceiling .ensures) (omega (arith, few-resources-of (s .args .g) (s .pre))))
+    (turn-within _ _ (c .before .if1 .taken), filled-next (outerCeiling (meaningOf (s .args .g))) _ (h .l) _ (h .inv .1) (c .outer-ceiling .ensures) (omega (arith, few-resources-of (s .args .g) (s .pre))))
 
 returns : tie.Need-returns Inv-loop μ-loop
 returns c =

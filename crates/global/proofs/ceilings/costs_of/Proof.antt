@@ -3,6 +3,7 @@ use Prim.Native.Nat.{_+_, ℕ, _≤_, _-_}
 use native.Mathlib.Omega.{arith}
 use mathlib.Core.Path.{_≡_, sym, ap, _∙_}
 use borrow.Author.Needs.{needs}
+use Rattle.lists.proofs.Turn.{turn-within, turn-less}
 use Rattle.global.proofs.Slots.{slot, filled-next, cost-of-slot, cost-small-of, few-of, few-resources-of}
 use Rattle.lists.specs.Range.{padded}
 use Rattle.lists.proofs.UpTo.{padded-none}
@@ -49,13 +50,13 @@ add-s : tie.Need-add-s Inv-loop μ-loop
 add-s c = search needs
 
 loop-less : tie.Need-loop-less Inv-loop μ-loop
-loop-less c = search needs
+loop-less c = turn-less _ _ (c .before .before .before .loop-test .taken)
 
 loop-again : tie.Need-loop-again Inv-loop μ-loop
 loop-again c =
     let s = c .before .before .before .before .before in
     let h = c .before .before .before .before .loop in
-    (omega arith, filled-next (costOf (meaningOf (s .args .t1))) _ (h .s) _ (h .inv .1) (stored-is c) (omega (arith, few-of (s .args .t1) (s .pre))))
+    (turn-within _ _ (c .before .before .before .loop-test .taken), filled-next (costOf (meaningOf (s .args .t1))) _ (h .s) _ (h .inv .1) (stored-is c) (omega (arith, few-of (s .args .t1) (s .pre))))
 
 returns : tie.Need-returns Inv-loop μ-loop
 returns c =

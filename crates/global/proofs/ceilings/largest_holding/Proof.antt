@@ -5,6 +5,7 @@ use native.Mathlib.Omega.{arith}
 use mathlib.Core.Path.{_≡_, sym, ap, _∙_}
 use lib.ListN.{getD}
 use borrow.Author.Needs.{needs}
+use Rattle.lists.proofs.Turn.{turn-within, turn-less}
 use Rattle.lists.specs.Range.{largestTo}
 use Rattle.lists.proofs.Over.{largestTo-zero, largestTo-suc}
 use Rattle.global.specs.Interfaces.{holdingAt}
@@ -33,14 +34,14 @@ add-l : tie.Need-add-l Inv-loop μ-loop
 add-l c = search needs
 
 loop-less : tie.Need-loop-less Inv-loop μ-loop
-loop-less c = search needs
+loop-less c = turn-less _ _ (c .before .before .loop-test .taken)
 
 loop-again : tie.Need-loop-again Inv-loop μ-loop
 unfolding holdingAt
 loop-again c =
     let i = c .before .before .before .before .args .t1 in
     let h = c .before .before .before .loop in
-    (omega arith, c .larger .ensures ∙ ap (λ (b : ℕ). max b (getD (i .holding) (h .l) 0)) (h .inv .1) ∙ sym (largestTo-suc (holdingAt i) (h .l)))
+    (turn-within _ _ (c .before .before .loop-test .taken), c .larger .ensures ∙ ap (λ (b : ℕ). max b (getD (i .holding) (h .l) 0)) (h .inv .1) ∙ sym (largestTo-suc (holdingAt i) (h .l)))
 
 returns : tie.Need-returns Inv-loop μ-loop
 returns c =

@@ -4,6 +4,7 @@ use Prim.Native.Nat.{_≤_, _-_}
 use native.Mathlib.Omega.{arith}
 use mathlib.Core.Path.{refl, _≡_, _∙_}
 use borrow.Author.Needs.{needs}
+use Rattle.lists.proofs.Turn.{turn-within, turn-less}
 use Rattle.global.proofs.Slots.{few-of, some-of, few-resources-of}
 use Rattle.global.proofs.CeilingLaws.{leftFrom, ceiling-here, ceiling-next, ceiling-over}
 use Rattle.global.proofs.ceilings.outer_ceiling.Statement.{statement}
@@ -39,13 +40,13 @@ add-s : tie.Need-add-s Inv-loop μ-loop
 add-s c = search needs
 
 loop-less : tie.Need-loop-less Inv-loop μ-loop
-loop-less c = search needs
+loop-less c = turn-less _ _ (c .before .before .before .loop-test .taken)
 
 loop-again : tie.Need-loop-again Inv-loop μ-loop
 loop-again c =
     let s = c .before .before .before .before .before in
     let h = c .before .before .before .before .loop in
-    (omega arith, ceiling-next (s .args .t1) (s .args .l) (s .pre .1) (h .s) (c .before .before .before .loop-test .taken) (c .if1 .left) ∙ h .inv .1)
+    (turn-within _ _ (c .before .before .before .loop-test .taken), ceiling-next (s .args .t1) (s .args .l) (s .pre .1) (h .s) (c .before .before .before .loop-test .taken) (c .if1 .left) ∙ h .inv .1)
 
 sub-result : tie.Need-sub-result Inv-loop μ-loop
 sub-result c = some-of (c .before .before .args .t1) (c .before .before .pre .0)

@@ -6,6 +6,7 @@ use mathlib.Core.Path.{_≡_, refl, sym, _∙_}
 use denote.Ref.{now}
 use lib.ListN.{length}
 use borrow.Author.Needs.{needs}
+use Rattle.lists.proofs.Turn.{turn-within, turn-less}
 use Rattle.global.specs.Leading.{beatenBy, ceilingAt}
 use Rattle.global.specs.Interfaces.{holdingAt}
 use Rattle.global.proofs.LeadingLaws.{leftBeaten, led-here, led-next, led-over}
@@ -59,14 +60,14 @@ add-j : tie.Need-add-j Inv-loop μ-loop
 add-j c = search needs
 
 loop-less : tie.Need-loop-less Inv-loop μ-loop
-loop-less c = search needs
+loop-less c = turn-less _ _ (c .before .before .before .before .before .before .loop-test .taken)
 
 loop-again : tie.Need-loop-again Inv-loop μ-loop
 unfolding beatenBy holdingAt ceilingAt
 loop-again c =
     let s = c .before .before .before .before .before .before .before .before .before in
     let h = c .before .before .before .before .before .before .before .loop in
-    (omega arith, led-next (holdingAt (s .args .t1)) (ceilingAt (now (s .args .ceilings))) (length (now (s .args .ceilings))) (s .args .l) (h .j) (c .before .before .before .before .before .before .loop-test .taken) (sym (c .if1 .left) ∙ c .before .is-beaten .ensures) ∙ h .inv .1)
+    (turn-within _ _ (c .before .before .before .before .before .before .loop-test .taken), led-next (holdingAt (s .args .t1)) (ceilingAt (now (s .args .ceilings))) (length (now (s .args .ceilings))) (s .args .l) (h .j) (c .before .before .before .before .before .before .loop-test .taken) (sym (c .if1 .left) ∙ c .before .is-beaten .ensures) ∙ h .inv .1)
 
 mul-result : tie.Need-mul-result Inv-loop μ-loop
 mul-result c = search needs

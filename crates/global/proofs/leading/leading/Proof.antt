@@ -5,6 +5,7 @@ use mathlib.Core.Path.{_≡_, sym, ap, _∙_}
 use lib.ListN.{length}
 use denote.Ref.{now}
 use borrow.Author.Needs.{needs}
+use Rattle.lists.proofs.Turn.{turn-within, turn-less}
 use Rattle.lists.specs.Range.{padded}
 use Rattle.lists.proofs.UpTo.{padded-none}
 use Rattle.table.specs.Limits.{most}
@@ -36,12 +37,12 @@ add-l : tie.Need-add-l Inv-loop μ-loop
 add-l c = search needs
 
 loop-less : tie.Need-loop-less Inv-loop μ-loop
-loop-less c = search needs
+loop-less c = turn-less _ _ (c .before .loop-test .taken)
 
 loop-again : tie.Need-loop-again Inv-loop μ-loop
 loop-again c =
     let h = c .before .before .loop in
-    (omega arith, filled-next _ _ (h .l) _ (h .inv .1) (c .held-if-leading .ensures) (omega arith))
+    (turn-within _ _ (c .before .loop-test .taken), filled-next _ _ (h .l) _ (h .inv .1) (c .held-if-leading .ensures) (omega arith))
 
 returns : tie.Need-returns Inv-loop μ-loop
 returns c =

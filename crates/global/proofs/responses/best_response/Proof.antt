@@ -6,6 +6,7 @@ use mathlib.Core.Path.{_≡_, ap, _∙_}
 use lib.ListN.{length}
 use denote.Ref.{now}
 use borrow.Author.Needs.{needs}
+use Rattle.lists.proofs.Turn.{turn-within, turn-less}
 use Rattle.global.specs.View.{held, ceiling}
 use Rattle.global.proofs.ActiveLaws.{active-within}
 use Rattle.global.specs.Response.{responseWith}
@@ -56,7 +57,7 @@ add-l : tie.Need-add-l Inv-loop μ-loop
 add-l c = search needs
 
 loop-less : tie.Need-loop-less Inv-loop μ-loop
-loop-less c = search needs
+loop-less c = turn-less _ _ (c .before .before .before .before .before .loop-test .taken)
 
 loop-again : tie.Need-loop-again Inv-loop μ-loop
 unfolding held ceiling
@@ -64,7 +65,7 @@ loop-again c =
     let s = c .before .before .before .before .before .before .before .before .before .before .before in
     let h = c .before .before .before .before .before .before .loop in
     let here = responds _ (s .pre .0) (s .pre .1 .0) (h .l) (c .before .before .before .before .before .loop-test .taken) (s .pre .1 .1) (c .before .response-with .ensures) in
-    (omega arith, best-step (responseWith _ (s .args .k)) (h .l) (h .inv .1) here (c .better .ensures))
+    (turn-within _ _ (c .before .before .before .before .before .loop-test .taken), best-step (responseWith _ (s .args .k)) (h .l) (h .inv .1) here (c .better .ensures))
 
 returns : tie.Need-returns Inv-loop μ-loop
 returns c =

@@ -4,6 +4,7 @@ use Prim.Native.Nat.{_≤_, _-_}
 use native.Mathlib.Omega.{arith}
 use mathlib.Core.Path.{_≡_, ap, _∙_}
 use borrow.Author.Needs.{needs}
+use Rattle.lists.proofs.Turn.{turn-within, turn-less}
 use Rattle.global.proofs.BudgetEndLaws.{budget-from-one}
 use Rattle.global.proofs.JobsLaws.{job-counted, some-jobs, next-fits, next-from}
 use Rattle.global.proofs.BestLaws.{worst-first, worst-step}
@@ -57,13 +58,13 @@ add-k : tie.Need-add-k Inv-loop μ-loop
 add-k c = omega (arith, c .before .before .before .before .before .before .before .before .before .before .before .before .fits .n, c .before .before .before .loop-test .taken)
 
 loop-less : tie.Need-loop-less Inv-loop μ-loop
-loop-less c = search needs
+loop-less c = turn-less _ _ (c .before .before .before .loop-test .taken)
 
 loop-again : tie.Need-loop-again Inv-loop μ-loop
 loop-again c =
     let s = c .before .before .before .before .before .before .before .before .before .before .before .before in
     let h = c .before .before .before .before .loop in
-    (omega (arith, c .before .before .before .loop-test .taken), worst-step _ (h .k) (h .inv .1) (c .before .before .next-job2 .ensures) (c .before .worse .ensures), next-from _ (s .pre .0) (job-counted _ (s .pre .1) (h .k) (c .before .before .before .loop-test .taken)) (c .before .before .next-job2 .ensures))
+    (turn-within _ _ (c .before .before .before .loop-test .taken), worst-step _ (h .k) (h .inv .1) (c .before .before .next-job2 .ensures) (c .before .worse .ensures), next-from _ (s .pre .0) (job-counted _ (s .pre .1) (h .k) (c .before .before .before .loop-test .taken)) (c .before .before .next-job2 .ensures))
 
 returns : tie.Need-returns Inv-loop μ-loop
 returns c =

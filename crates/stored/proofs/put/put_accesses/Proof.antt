@@ -1,5 +1,6 @@
 -- `stored::put::put_accesses` meets its contract: the loop's invariant: the first l accesses are put. Assumes nothing.
 use borrow.Author.Needs.{needs}
+use Rattle.lists.proofs.Turn.{turn-within, turn-less}
 use Rattle.stored.proofs.WriteSteps.{put-keeps-length, list-begins, list-starts-within, list-has-room, list-ends-within, list-goes-on, list-ends}
 use Rattle.stored.specs.Numbers.{numberSize}
 use Rattle.stored.proofs.FileLaws.{length-numberBytes}
@@ -61,7 +62,7 @@ add-l : tie.Need-add-l Inv-loop μ-loop
 add-l c = search needs
 
 loop-less : tie.Need-loop-less Inv-loop μ-loop
-loop-less c = search needs
+loop-less c = turn-less _ _ (c .before .before .before .before .before .loop-test .taken)
 
 loop-again : tie.Need-loop-again Inv-loop μ-loop
 unfolding accessAt
@@ -69,7 +70,7 @@ loop-again c =
     let s = c .before .before .before .before .before .before .before .before in
     let k = c .before .before .before .before .before .before .loop in
     let e = c .before .before .put-number in
-    (search needs, list-goes-on numberBytes (accessAt (s .args .t2)) (s .args .free .now) (s .args .m) (k .l) (k .at) (k .free) (c .before .before .before .before .before .loop-test .taken) (s .pre .1) (k .inv .1) (e .last .0) (e .result) (e .ensures))
+    (turn-within _ _ (c .before .before .before .before .before .loop-test .taken), list-goes-on numberBytes (accessAt (s .args .t2)) (s .args .free .now) (s .args .m) (k .l) (k .at) (k .free) (c .before .before .before .before .before .loop-test .taken) (s .pre .1) (k .inv .1) (e .last .0) (e .result) (e .ensures))
 
 same-length : tie.Need-same-length Inv-loop μ-loop
 same-length c =

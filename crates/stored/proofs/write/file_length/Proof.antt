@@ -2,6 +2,7 @@
 -- subsystems, and a bound of it. Assumes nothing.
 use borrow.Author.Needs.{needs}
 use native.Mathlib.Nat.{mul-le-mul}
+use Rattle.lists.proofs.Turn.{turn-within, turn-less}
 use Rattle.table.specs.declared.Subsystem.{Subsystem}
 use Rattle.table.specs.Limits.{most}
 use Rattle.stored.proofs.FileLaws.{flatMap-none, length-one-subsystem-more, length-file-parts}
@@ -40,6 +41,10 @@ tasks-counted c =
 size-bounded : (tasks m : ℕ) → tasks < 256 → m < 256 → tasks * fieldSize (taskLength m) ≤ 263925
 size-bounded tasks m h l = mul-le-mul {n₂ = 255} {m₂ = 1035} (omega arith) (omega arith)
 
+-- So many the subsystem that the loop stands at has: said once, and every sum of the turn is bounded by it.
+bytes-bounded : (c : tie.Joined1 Inv-loop μ-loop) → c .if1 .tasks * fieldSize (taskLength (c .before .before .before .args .t1 .resources)) ≤ 263925
+bytes-bounded c = size-bounded (c .if1 .tasks) (c .before .before .before .args .t1 .resources) (tasks-counted c .1) (omega arith)
+
 cast-n : tie.Need-cast-n Inv-loop μ-loop
 cast-n c = search needs
 
@@ -74,25 +79,25 @@ add-total-2 : tie.Need-add-total-2 Inv-loop μ-loop
 add-total-2 c = search needs
 
 mul-total : tie.Need-mul-total Inv-loop μ-loop
-mul-total c = omega (arith, size-bounded (c .before .if1 .tasks) (c .before .before .before .before .args .t1 .resources) (tasks-counted (c .before) .1) (omega arith))
+mul-total c = omega (arith, bytes-bounded (c .before))
 
 add-total-3 : tie.Need-add-total-3 Inv-loop μ-loop
-add-total-3 c = omega (arith, size-bounded (c .before .if1 .tasks) (c .before .before .before .before .args .t1 .resources) (tasks-counted (c .before) .1) (omega arith))
+add-total-3 c = omega (arith, bytes-bounded (c .before))
 
 add-total-4 : tie.Need-add-total-4 Inv-loop μ-loop
-add-total-4 c = omega (arith, size-bounded (c .before .if1 .tasks) (c .before .before .before .before .args .t1 .resources) (tasks-counted (c .before) .1) (omega arith), c .before .before .before .loop .inv)
+add-total-4 c = omega (arith, bytes-bounded (c .before), c .before .before .before .loop .inv)
 
 add-s : tie.Need-add-s Inv-loop μ-loop
 add-s c = search needs
 
 loop-less : tie.Need-loop-less Inv-loop μ-loop
-loop-less c = search needs
+loop-less c = turn-less _ _ (c .before .before .loop-test .taken)
 
 loop-again : tie.Need-loop-again Inv-loop μ-loop
 loop-again c = (
-  omega arith,
+  turn-within _ _ (c .before .before .loop-test .taken),
   length-one-subsystem-more (c .before .before .before .before .args .t1) (c .before .before .before .loop .s) (c .before .before .before .loop .total) (c .before .if1 .tasks) (c .before .before .before .loop .inv .1) (tasks-counted (c .before) .0),
-  omega (arith, size-bounded (c .before .if1 .tasks) (c .before .before .before .before .args .t1 .resources) (tasks-counted (c .before) .1) (omega arith), c .before .before .before .loop .inv .2),
+  omega (arith, bytes-bounded (c .before), c .before .before .before .loop .inv .2),
 )
 
 returns : tie.Need-returns Inv-loop μ-loop

@@ -4,6 +4,7 @@ use borrow.Author.Needs.{needs}
 use Prim.Native.Nat.{_≤_, _-_}
 use mathlib.Core.Path.{refl}
 use mathlib.Core.List.{flatMap}
+use Rattle.lists.proofs.Turn.{turn-within, turn-less}
 use Rattle.table.specs.Meaning.{subsystemAt}
 use Rattle.lists.specs.Range.{upTo}
 use Rattle.stored.specs.Write.{IsPut}
@@ -69,7 +70,7 @@ add-s : tie.Need-add-s Inv-loop μ-loop
 add-s c = search needs
 
 loop-less : tie.Need-loop-less Inv-loop μ-loop
-loop-less c = search needs
+loop-less c = turn-less _ _ (c .before .before .before .before .before .loop-test .taken)
 
 loop-again : tie.Need-loop-again Inv-loop μ-loop
 unfolding subsystemAt
@@ -77,7 +78,7 @@ loop-again c =
     let s = c .before .before .before .before .before .before .before .before in
     let k = c .before .before .before .before .before .before .loop in
     let e = c .before .before .put-subsystem in
-    (search needs, list-goes-on subsystemBytes (subsystemAt (s .args .t2)) (s .args .free .now) (s .args .t2 .count) (k .s) (k .at) (k .free) (c .before .before .before .before .before .loop-test .taken) (s .pre .1) (k .inv .1) (e .last .0) (e .result) (e .ensures))
+    (turn-within _ _ (c .before .before .before .before .before .loop-test .taken), list-goes-on subsystemBytes (subsystemAt (s .args .t2)) (s .args .free .now) (s .args .t2 .count) (k .s) (k .at) (k .free) (c .before .before .before .before .before .loop-test .taken) (s .pre .1) (k .inv .1) (e .last .0) (e .result) (e .ensures))
 
 same-length : tie.Need-same-length Inv-loop μ-loop
 same-length c =
