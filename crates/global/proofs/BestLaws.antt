@@ -70,9 +70,9 @@ module _ (v : View) where
         resource = jobResource v (sym (firstAt-new (jobResponse v) n h) i);
       }
 
-  worst-old : (n : ℕ) → jobResponse v n ≤ largestTo (jobResponse v) n → worstOf v n ≡ worstOf v (n + 1)
+  pub worst-stays : (n : ℕ) → jobResponse v n ≤ largestTo (jobResponse v) n → worstOf v n ≡ worstOf v (n + 1)
   unfolding worstOf response worstJob
-  worst-old n h =
+  worst-stays n h =
       λ i.
       record {
         response = sym (largest-old (jobResponse v) n h) i;
@@ -86,6 +86,6 @@ module _ (v : View) where
   worst-step n {w} {r} {j} e q h =
       h ∙
       ap₂ (λ (c : Worst) (i : Job). cond (ltb (c .response) (i .response)) (record { response = i .response; job = n; resource = i .resource }) c) e q ∙
-      ⊎-elim (λ (u : jobResponse v n ≤ largestTo (jobResponse v) n). rw (le-ltb _ _ u) (worst-old n u))
+      ⊎-elim (λ (u : jobResponse v n ≤ largestTo (jobResponse v) n). rw (le-ltb _ _ u) (worst-stays n u))
       (λ (u : largestTo (jobResponse v) n < jobResponse v n). rw (lt-ltb _ _ u) (worst-new n u))
       (le-or-lt (jobResponse v n) (largestTo (jobResponse v) n))

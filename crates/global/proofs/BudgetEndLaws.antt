@@ -15,7 +15,7 @@ use Rattle.least.specs.Least.{least}
 use Rattle.least.specs.Search.{Search, Comes-down, IsLeast}
 use Rattle.least.proofs.Up.{up-is-least}
 use Rattle.least.proofs.Demand.{demand-mono}
-use Rattle.least.proofs.Search.{stands-at-one, least-stands, least-is-one, stands-warm}
+use Rattle.least.proofs.Search.{stands-at-one, stands-below, least-stands, least-is-one, stands-warm}
 use Rattle.least.proofs.LeastLaws.{least-below}
 use Rattle.table.specs.Limits.{horizon}
 use Rattle.global.specs.Blocking.{numberOr}
@@ -143,3 +143,10 @@ module _ (v : View) (sv : Sound-view v) where
         early h =
             let few : up (budgetEnd v k) (v .period) * cost v ≤ k * cost v = mul-le-mul-right (cost v) (up-is-least (budgetEnd v k) (v .period) k (period-pos v sv) h) in
             omega (arith, active-before v sv (ct .is-active) (budgetEnd v k) (budget-end-is-least .from) (omega (arith, released-within v sv (ct .is-active) k (ct .among))), budget-end-parts, sv .budget-pos)
+
+-- F(k + 1) is at least Q + X after F(k).
+pub budget-end-next : (v : View) → Sound-view v → {k : ℕ} → Counted v k → Counted v (k + 1) → budgetEnd v k + cost v ≤ budgetEnd v (k + 1)
+unfolding Budget-from
+budget-end-next v sv {k} ct next =
+    let i = budget-end-is-least v sv next in
+    stands-below (budgetTotal v (k + 1)) (next-starts v sv ct) (i .from) (omega (arith, i .solution))

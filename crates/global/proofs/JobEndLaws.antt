@@ -1,6 +1,6 @@
 -- Laws of job ends (step 10): every job of an active period has one for each resource that counts, none is above the active
 -- period, the search for it starts at F(k) + X(s, l), and its constant part is what F(k) leaves. Assumes nothing.
-use Prim.Native.Nat.{ℕ, _+_, _*_, _≤_, _<_}
+use Prim.Native.Nat.{ℕ, _+_, _-_, _*_, _≤_, _<_}
 use native.Mathlib.Omega.{arith}
 use mathlib.Core.Path.{_≡_, refl, sym, ap, _∙_}
 use mathlib.Core.Option.{some}
@@ -16,7 +16,7 @@ use Rattle.global.specs.View.{View, resources, held, ceiling}
 use Rattle.global.specs.Ends.{ahead, budgetEnd, shutOut, jobEnd}
 use Rattle.global.specs.Sound.{Sound-view, Counted}
 use Rattle.global.proofs.ActiveLaws.{budget-and-held-at-most, higher-loads, active-from, active-within}
-use Rattle.global.proofs.BudgetEndLaws.{budgetTotal, ahead-holds-budget, jobs-fit, budget-end-is-least, budget-end-within, budget-end-parts, released-before-end}
+use Rattle.global.proofs.BudgetEndLaws.{budgetTotal, ahead-next, ahead-holds-budget, budget-end-next, jobs-fit, budget-end-is-least, budget-end-within, budget-end-parts, released-before-end}
 
 -- The constant part, and what the job end of job k with resource l is the least solution of.
 abbrev pub jobConstant : View → ℕ → ℕ → ℕ
@@ -104,6 +104,25 @@ module _ (v : View) (sv : Sound-view v) {k : ℕ} (ct : Counted v k) (l : ℕ) (
 
   pub released-before-job-end : k * v .period < jobEnd v k l
   released-before-job-end = omega (arith, released-before-end v sv ct, job-end-from)
+
+  -- It is at least Q before the end of the next job's budget: by then all that the job may wait for has been asked for.
+  pub job-end-before-next : Counted v (k + 1) → jobEnd v k l + v .budget ≤ budgetEnd v (k + 1)
+  job-end-before-next next =
+      let last : ℕ = budgetEnd v (k + 1) in
+      let parts : last ≡ ahead v (k + 1) + demand (v .periods) (v .costs) (v .place) last = budget-end-parts v sv next in
+      let room : v .budget + v .budget ≤ last = omega (arith, ahead-next v k, ahead-holds-budget v k, budget-and-held-at-most v l within) in
+      let down : jobTotal v k l (last - v .budget) ≤ last - v .budget =
+      omega (
+        arith,
+        job-total v k l (last - v .budget),
+        ahead-next v k,
+        budget-and-held-at-most v l within,
+        shut-mono {x = budgetEnd v k} {y = last} (omega (arith, budget-end-next v sv ct next)),
+        open-mono {x = last - v .budget} {y = last} (omega arith),
+        both last,
+      )
+      in
+      omega (arith, stands-below (jobTotal v k l) (least-stands (jobTotal v k l) job-end-is-least) (omega (arith, sv .budget-pos)) down)
 
   -- Where a search for it may look.
   pub job-comes-down : Comes-down (jobTotal v k l)

@@ -1,16 +1,14 @@
 -- Laws of the jobs of an active period, as one is computed after the other: each counts, and where the search for the next one
 -- begins. Assumes nothing.
-use Prim.Native.Nat.{ℕ, _+_, _^_, _≤_, _<_}
+use Prim.Native.Nat.{ℕ, _+_, _*_, _^_, _≤_, _<_}
 use native.Mathlib.Omega.{arith}
-use mathlib.Core.Path.{_≡_, ap, ap₂}
+use mathlib.Core.Path.{_≡_, ap₂}
 use lib.ListN.{getD}
-use Rattle.global.specs.declared.responses.Job.{Job}
 use Rattle.global.specs.View.{View, cost}
 use Rattle.global.specs.Ends.{budgetEnd}
 use Rattle.global.specs.Sound.{Sound-view, Counted, Jobs, Budget-from}
-use Rattle.global.specs.Computed.{jobOf}
 use Rattle.global.proofs.ActiveLaws.{active-within, some-job}
-use Rattle.global.proofs.BudgetEndLaws.{budget-end-within, next-starts}
+use Rattle.global.proofs.BudgetEndLaws.{ahead-holds-budget, budget-end-parts, budget-end-within, next-starts, released-before-end}
 
 -- Each number below the number of jobs is a job.
 pub job-counted : (v : View) {n : ℕ} → Jobs v n → (k : ℕ) → k < n → Counted v k
@@ -20,18 +18,22 @@ job-counted v j k h = record { active = j .active; is-active = j .is-active; amo
 pub some-jobs : (v : View) → Sound-view v → {n : ℕ} → Jobs v n → 1 ≤ n
 some-jobs v sv j = rw (j .all) (some-job v sv (j .is-active))
 
-module _ (v : View) (sv : Sound-view v) {k : ℕ} (ct : Counted v k) {j : Job} (e : j ≡ jobOf v k) where
-  end-is : j .end ≡ budgetEnd v k
-  unfolding jobOf
-  end-is = ap (λ (i : Job). i .end) e
-
-  next-is : j .end + getD (v .costs) (v .place) 0 ≡ budgetEnd v k + cost v
-  next-is = ap₂ _+_ end-is (sv .own-cost)
+module _ (v : View) (sv : Sound-view v) {k : ℕ} (ct : Counted v k) {end : ℕ} (e : end ≡ budgetEnd v k) where
+  next-is : end + getD (v .costs) (v .place) 0 ≡ budgetEnd v k + cost v
+  next-is = ap₂ _+_ e (sv .own-cost)
 
   -- The next search begins within the machine's numbers, and may begin there.
-  pub next-fits : j .end + getD (v .costs) (v .place) 0 < 2 ^ 32
+  pub next-fits : end + getD (v .costs) (v .place) 0 < 2 ^ 32
   next-fits =
       omega (arith, next-is, budget-end-within v sv ct, active-within v sv (ct .is-active), sv .fits, sv .period-small)
 
-  pub next-from : Budget-from v (k + 1) (j .end + getD (v .costs) (v .place) 0)
+  pub next-from : Budget-from v (k + 1) (end + getD (v .costs) (v .place) 0)
   next-from = rw next-is (next-starts v sv ct)
+
+-- A job's release is within the machine's numbers, and its budget before the end of the budget of any job.
+module _ (v : View) (sv : Sound-view v) {k : ℕ} (ct : Counted v k) where
+  pub release-fits : k * v .period < 2 ^ 32
+  release-fits = omega (arith, released-before-end v sv ct, budget-end-within v sv ct, active-within v sv (ct .is-active))
+
+  pub budget-by-its-end : {end : ℕ} → end ≡ budgetEnd v k → v .budget ≤ end
+  budget-by-its-end e = omega (arith, e, budget-end-parts v sv ct, ahead-holds-budget v k)

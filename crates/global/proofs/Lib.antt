@@ -10,6 +10,7 @@ pub mod JobEndLaws
 pub mod ViewLaws
 pub mod AfterLaws
 pub mod BestLaws
+pub mod SkipLaws
 pub mod ResponseLaws
 pub mod JobsLaws
 pub mod RowLaws

@@ -4,7 +4,7 @@ use least::least_within;
 use numbers::wide;
 ghost use mathlib.Core.Path.{_≡_};
 ghost use mathlib.Core.Bool.{cond};
-ghost use Prim.Native.Nat.{_+_, _*_, _^_, _≤_, _<_};
+ghost use Prim.Native.Nat.{_+_, _-_, _*_, _^_, _≤_, _<_};
 ghost use lib.Dec.{ltb};
 ghost use lib.ListN.{length};
 ghost use Rattle.global.specs.Response.{responseWith};
@@ -146,8 +146,8 @@ fn ahead_of(own: Own, cost: u32, k: u32) -> u64
     wide(own.blocking) + wide(k * cost) + wide(own.budget)
 }
 
-// Job k of the active period. The search for the end of its budget begins at `start`, where it may stand.
-fn next_job(
+// F(k), searched from a start at which the search may stand.
+fn end_of_budget(
     periods: &[u32],
     costs: &[u32],
     holdings: &[u32],
@@ -155,20 +155,29 @@ fn next_job(
     own: Own,
     k: u32,
     start: u32,
-) -> Job
+) -> u32
     requires { ⌜ Sound-view (seenBy (now periods) (now costs) (now holdings) (now ceilings) own) ⌝ }
     requires { ⌜ Counted (seenBy (now periods) (now costs) (now holdings) (now ceilings) own) k ⌝ }
     requires { ⌜ Budget-from (seenBy (now periods) (now costs) (now holdings) (now ceilings) own) k start ⌝ }
-    ensures { λ r. ⌜ r ≡ jobOf (seenBy (now (periods .entry)) (now (costs .entry)) (now (holdings .entry)) (now (ceilings .entry)) own) k ⌝ }
+    ensures { λ r. ⌜ r ≡ budgetEnd (seenBy (now (periods .entry)) (now (costs .entry)) (now (holdings .entry)) (now (ceilings .entry)) own) k ⌝ }
 {
     let s = own.place;
     let ahead = ahead_of(own, costs[s], k);
-    let end = least_within(periods, costs, s, ahead, start);
-    job_response(periods, costs, holdings, ceilings, own, k, end)
+    least_within(periods, costs, s, ahead, start)
 }
 
-// The largest response over the n jobs of the active period, the first job that has it, and that job's lowest resource.
-// Each job's search begins where the last one ended, and Q + X further on.
+// Whether job k, whose end is not known, may respond later than the worst so far. It ends Q ticks before F(k + 1), which is
+// `next`, or earlier.
+fn may_be_worse(own: Own, worst: Worst, k: u32, next: u32) -> bool
+    requires { ⌜ (k * own .period < 2 ^ 32) × (own .budget ≤ next) ⌝ }
+    ensures { λ r. ⌜ r ≡ ltb (worst .response + k * own .period) (next - own .budget) ⌝ }
+{
+    wide(worst.response) + wide(k * own.period) < wide(next - own.budget)
+}
+
+// The largest response over the n jobs of the active period, the first job that has it, and that job's lowest resource. Each
+// budget end is searched from where the last one was found, and Q + X further on. A job's own end is looked for only where
+// the next budget end leaves room for a larger response.
 pub(crate) fn largest_response(
     periods: &[u32],
     costs: &[u32],
@@ -183,19 +192,22 @@ pub(crate) fn largest_response(
 {
     let s = own.place;
     let cost = costs[s];
-    let first = next_job(periods, costs, holdings, ceilings, own, 0, 1);
     let mut worst = Worst {
-        response: first.response,
+        response: 0,
         job: 0,
-        resource: first.resource,
+        resource: 0,
     };
-    let mut start = first.end + cost;
-    let mut k: u32 = 1;
-    while k < n {
-        let job = next_job(periods, costs, holdings, ceilings, own, k, start);
-        worst = worse(worst, job, k);
-        start = job.end + cost;
+    let mut end = end_of_budget(periods, costs, holdings, ceilings, own, 0, 1);
+    let mut k: u32 = 0;
+    while k + 1 < n {
+        let next = end_of_budget(periods, costs, holdings, ceilings, own, k + 1, end + cost);
+        if may_be_worse(own, worst, k, next) {
+            let job = job_response(periods, costs, holdings, ceilings, own, k, end);
+            worst = worse(worst, job, k);
+        }
+        end = next;
         k += 1;
     }
-    worst
+    let last = job_response(periods, costs, holdings, ceilings, own, k, end);
+    worse(worst, last, k)
 }

@@ -1,0 +1,137 @@
+-- Laws of the jobs whose end need not be looked for: a job ends Q before the next one's budget does, or earlier, so where that
+-- leaves no room for a larger response than the worst so far, the worst so far stays. Assumes nothing.
+use Prim.Native.Nat.{ℕ, zero, suc, _+_, _-_, _*_, _≤_, _<_}
+use native.Mathlib.Omega.{arith}
+use native.Mathlib.Numerals.{add-one}
+use mathlib.Core.Path.{_≡_, refl, sym, ap, _∙_}
+use mathlib.Core.Bool.{Bool, true, false, cond}
+use mathlib.Core.Logic.{⊎-elim}
+use borrow.Author.Tests.{lt-ltb, le-ltb, ltb-false}
+use lib.Dec.{ltb}
+use Rattle.lists.specs.Range.{largestTo}
+use Rattle.lists.proofs.Over.{le-or-lt, largestTo-zero, below-largest, largest-at-most, largest-reached}
+use Rattle.global.specs.View.{View, resources, held, overrun, cost}
+use Rattle.global.specs.Ends.{budgetEnd, jobEnd}
+use Rattle.global.specs.Response.{responseWith, jobResponse, response}
+use Rattle.global.specs.Sound.{Sound-view, Counted}
+use Rattle.global.specs.Computed.{jobOf, worstOf}
+use Rattle.global.specs.declared.responses.Job.{Job}
+use Rattle.global.specs.declared.responses.Worst.{Worst}
+use Rattle.global.proofs.ActiveLaws.{budget-at-most}
+use Rattle.global.proofs.BudgetEndLaws.{budget-end-next, released-before-end}
+use Rattle.global.proofs.JobEndLaws.{job-end-before-next, released-before-job-end}
+use Rattle.global.proofs.ResponseLaws.{response-without, response-with}
+use Rattle.global.proofs.BestLaws.{worst-first, worst-step, worst-stays}
+
+-- The response with a resource that is held, and with one that is not.
+module _ (v : View) (k l : ℕ) where
+  counted-response : 0 < held v l → responseWith v k l ≡ jobEnd v k l - k * v .period
+  unfolding responseWith
+  counted-response u = rw (lt-ltb 0 (held v l) u) refl
+
+  uncounted-response : held v l ≤ 0 → responseWith v k l ≡ 0
+  unfolding responseWith
+  uncounted-response u = rw (le-ltb 0 (held v l) u) refl
+
+module _ (v : View) (sv : Sound-view v) {k : ℕ} (ct : Counted v k) where
+  -- A job's response is above 0.
+  pub response-above-zero : 0 < jobResponse v k
+  response-above-zero = ⊎-elim without with-some (le-or-lt (overrun v) 0)
+    where
+      without : overrun v ≤ 0 → 0 < jobResponse v k
+      without h = omega (arith, response-without v k (omega arith), released-before-end v sv ct)
+
+      with-some : 0 < overrun v → 0 < jobResponse v k
+      with-some h = ⊎-elim (λ (e : largestTo (held v) (resources v) ≡ 0). absurd (none e)) found (largest-reached (held v) (resources v))
+        where
+          none : largestTo (held v) (resources v) ≡ 0 → ⊥
+          none e = unfold overrun in omega (arith, h, e)
+
+          found : (i : ℕ) × (i < resources v) × (held v i ≡ largestTo (held v) (resources v)) → 0 < jobResponse v k
+          found (i, within, e) =
+              let counts : 0 < held v i = unfold overrun in omega (arith, h, e) in
+              omega (
+                arith,
+                response-with v k h,
+                below-largest (responseWith v k) (resources v) i within,
+                counted-response v k i counts,
+                released-before-job-end v sv ct i within counts,
+              )
+
+  -- It leaves Q before the end of the next job's budget.
+  pub response-before-next : Counted v (k + 1) → jobResponse v k + k * v .period + v .budget ≤ budgetEnd v (k + 1)
+  response-before-next next = ⊎-elim without with-some (le-or-lt (overrun v) 0)
+    where
+      without : overrun v ≤ 0 → jobResponse v k + k * v .period + v .budget ≤ budgetEnd v (k + 1)
+      without h =
+          omega (arith, response-without v k (omega arith), released-before-end v sv ct, budget-end-next v sv ct next, budget-at-most v)
+
+      each : (l : ℕ) → l < resources v → responseWith v k l ≤ budgetEnd v (k + 1) - v .budget - k * v .period
+      each l within =
+          ⊎-elim (λ (u : held v l ≤ 0). omega (arith, uncounted-response v k l u))
+          (λ (u : 0 < held v l). omega (arith, counted-response v k l u, job-end-before-next v sv ct l within u next))
+          (le-or-lt (held v l) 0)
+
+      with-some : 0 < overrun v → jobResponse v k + k * v .period + v .budget ≤ budgetEnd v (k + 1)
+      with-some h =
+          omega (
+            arith,
+            response-with v k h,
+            largest-at-most (responseWith v k) (resources v) (budgetEnd v (k + 1) - v .budget - k * v .period) each,
+            released-before-end v sv ct,
+            budget-end-next v sv ct next,
+            budget-at-most v,
+          )
+
+------------------------------------------------------------------------
+-- The worst of the jobs so far; before the first there is none, and 0 stands for its response
+
+module _ (v : View) where
+  unfoldable pub WorstTo : ℕ → Worst → Type 0
+  WorstTo n w = (w .response ≡ response v n) × (1 ≤ n → w ≡ worstOf v n)
+
+  pub worst-to-none : WorstTo 0 (record { response = 0; job = 0; resource = 0 })
+  unfolding WorstTo response
+  worst-to-none = (sym (largestTo-zero (jobResponse v)), λ h. absurd (omega arith))
+
+  worst-is-all : (n : ℕ) {w : Worst} → w ≡ worstOf v n → WorstTo n w
+  unfolding WorstTo worstOf
+  worst-is-all n e = (ap (λ (x : Worst). x .response) e, λ _. e)
+
+  -- One job more, judged.
+  pub worst-to-judged :
+      (n : ℕ) → 0 < jobResponse v 0 → (w : Worst) {r : Worst} {j : Job} → WorstTo n w → j ≡ jobOf v n →
+      r ≡ cond (ltb (w .response) (j .response)) (record { response = j .response; job = n; resource = j .resource }) w → WorstTo (n + 1) r
+  unfolding WorstTo response
+  worst-to-judged zero pos w {r} {j} h e f = worst-is-all 1 (f ∙ rw (lt-ltb (w .response) (j .response) above) (worst-first v e))
+    where
+      above : w .response < j .response
+      above = unfold jobOf in omega (arith, h .0, largestTo-zero (jobResponse v), ap (λ (i : Job). i .response) e)
+  worst-to-judged (suc n) pos w h e f = worst-is-all (suc n + 1) (worst-step v (suc n) (h .1 (omega arith)) e f)
+
+  -- One job more, passed over.
+  pub worst-to-passed : (n : ℕ) → 1 ≤ n → (w : Worst) → WorstTo n w → jobResponse v n ≤ w .response → WorstTo (n + 1) w
+  unfolding WorstTo response
+  worst-to-passed n some w h u = worst-is-all (n + 1) (h .1 some ∙ worst-stays v n (omega (arith, h .0)))
+
+  pub worst-of-all : (n m : ℕ) (w : Worst) → n + 1 ≡ m → WorstTo (n + 1) w → w ≡ worstOf v m
+  unfolding WorstTo
+  worst-of-all n m w e h = h .1 (omega arith) ∙ ap (worstOf v) e
+
+-- Where the next budget end leaves no room, the job is passed over: as the code tests it. It is never the first.
+pub passed-over :
+    (v : View) → Sound-view v → (k : ℕ) → Counted v k → Counted v (k + 1) → (w : Worst) (next : ℕ) → next ≡ budgetEnd v (k + 1) →
+    ltb (w .response + k * v .period) (next - v .budget) ≡ false → WorstTo v k w → WorstTo v (k + 1) w
+unfolding WorstTo response
+passed-over v sv k ct after w next e f h =
+    let room : next - v .budget ≤ w .response + k * v .period = ltb-false _ _ f in
+    let ends : jobResponse v k + k * v .period + v .budget ≤ budgetEnd v (k + 1) = response-before-next v sv ct after in
+    ⊎-elim (λ (z : k ≤ 0). absurd (first z room ends))
+    (λ (some : 0 < k). worst-to-passed v k some w h (omega arith))
+    (le-or-lt k 0)
+  where
+    first : k ≤ 0 → next - v .budget ≤ w .response + k * v .period → jobResponse v k + k * v .period + v .budget ≤ budgetEnd v (k + 1) → ⊥
+    first z room ends =
+        let none : k ≡ 0 = omega arith in
+        let zero-response : w .response ≡ 0 = h .0 ∙ ap (largestTo (jobResponse v)) none ∙ largestTo-zero (jobResponse v) in
+        omega (arith, response-above-zero v sv ct)
