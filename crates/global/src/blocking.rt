@@ -36,7 +36,7 @@ fn longest_reaching(i: Interface, ceilings: &[usize], s: usize) -> u32
 }
 
 // B(s): the longest that a lower subsystem holds a resource whose ceiling reaches s.
-pub(crate) fn blocking_of(g: Interfaces, ceilings: &[usize], s: usize) -> u32
+pub fn blocking_of(g: Interfaces, ceilings: &[usize], s: usize) -> u32
     requires { ⌜ Sound (meaningOf g) ⌝ }
     requires { ⌜ now ceilings ≡ upTo (outerCeiling (meaningOf g)) (g .resources) ⌝ }
     requires { ⌜ s < g .count ⌝ }

@@ -1,18 +1,15 @@
 // Steps 6 to 11 over interfaces alone: outer ceilings, blocking, active period, jobs, budget ends, job ends, responses and
-// rows. An interface is all that the other subsystems see of one: its period, its budget and how long it may hold each
+// rows. Crate `ends` asks about single jobs. An interface is all that the other subsystems see of one: its period, its budget and how long it may hold each
 // resource. Every function here is proved, and the crate assumes nothing. Indices count from 0; document 01 counts from 1.
 mod blocking;
 mod ceilings;
-mod ends;
 mod leading;
 mod responses;
 mod rows;
 
+pub use blocking::blocking_of;
 pub use ceilings::Common;
 pub use ceilings::in_common;
-pub use ends::budget_end;
-pub use ends::job_end;
-pub use ends::jobs_of;
 pub use rows::row_of;
 use table::Table;
 

@@ -25,11 +25,11 @@ fn end_of(g: Interfaces, common: Common, s: usize, k: u32, l: usize) -> JobEnd
     requires { ⌜ s < g .count ⌝ }
     ensures { λ r. ⌜ r ≡ endOf (viewOf (meaningOf g) s) k l ⌝ }
 {
-    if global::jobs_of(g, common, s) <= k {
+    if ends::jobs_of(g, common, s) <= k {
         return JobEnd::Nothing;
     }
     if l == 0 {
-        return JobEnd::At(global::budget_end(g, common, s, k));
+        return JobEnd::At(ends::budget_end(g, common, s, k));
     }
     if g.resources < l {
         return JobEnd::Nothing;
@@ -38,7 +38,7 @@ fn end_of(g: Interfaces, common: Common, s: usize, k: u32, l: usize) -> JobEnd
     if i.holding[l - 1] == 0 {
         return JobEnd::Nothing;
     }
-    JobEnd::At(global::job_end(g, common, s, k, l - 1))
+    JobEnd::At(ends::job_end(g, common, s, k, l - 1))
 }
 
 // The end of job k of subsystem s with resource l, in ticks from the start of the active period; subsystems and resources

@@ -1,6 +1,6 @@
 // The table's kind: what a set of parts is written down as, its limits, and the table of zeros. What a table means is
 // in specs/Meaning.antt. Every function here is proved, and the crate assumes nothing of its own. No public function
-// has a `requires`.
+// of this file has a `requires`; `columns` asks for arrays of zeros.
 ghost use mathlib.Core.Path.{_≡_};
 ghost use Rattle.table.specs.Limits.{most, largest, horizon};
 ghost use Rattle.table.specs.Zeros.{zeroTask, zeroSubsystem, zeroTable};

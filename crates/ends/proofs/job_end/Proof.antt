@@ -1,18 +1,18 @@
--- `global::ends::job_end` meets its contract: what it lends are the loads, and the search from the budget's end finds the
+-- `ends::job_end` meets its contract: what it lends are the loads, and the search from the budget's end finds the
 -- job's. Assumes nothing.
 use Prim.Native.Nat.{_≤_, _<_}
 use native.Mathlib.Omega.{arith}
 use borrow.Author.Needs.{needs}
 use Rattle.table.specs.Limits.{most}
 use Rattle.global.specs.Interfaces.{meaningOf}
 use Rattle.global.specs.View.{viewOf}
 use Rattle.global.specs.Sound.{Sound-view}
 use Rattle.global.proofs.Slots.{few-of, few-resources-of}
 use Rattle.global.proofs.SeenLaws.{used-length}
 use Rattle.global.proofs.LentLaws.{periods-long, costs-long, periods-lent, costs-lent, ceiling-lent, held-lent, resource-seen, lent-sound}
 use Rattle.global.proofs.EndsLaws.{after-lent, job-at}
-use Rattle.global.proofs.ends.job_end.Statement.{statement}
-use Rattle.global.proofs.ends.job_end.Tie as tie
+use Rattle.ends.proofs.job_end.Statement.{statement}
+use Rattle.ends.proofs.job_end.Tie as tie
 
 few : (s : tie.Start) → s .args .t1 .count ≤ most
 few s = few-of (s .args .t1) (s .pre .0)

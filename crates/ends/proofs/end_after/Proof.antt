@@ -1,13 +1,13 @@
--- `global::ends::end_after` meets its contract: the search goes on from the budget's end. Assumes nothing.
+-- `ends::end_after` meets its contract: the search goes on from the budget's end. Assumes nothing.
 use Prim.Native.Nat.{_+_, _-_}
 use native.Mathlib.Omega.{arith}
 use mathlib.Core.Path.{_≡_, ap₂}
 use denote.Ref.{now}
 use borrow.Author.Needs.{needs}
 use Rattle.global.specs.Computed.{afterwards}
 use Rattle.global.proofs.AfterLaws.{after-within}
-use Rattle.global.proofs.ends.end_after.Statement.{statement}
-use Rattle.global.proofs.ends.end_after.Tie as tie
+use Rattle.ends.proofs.end_after.Statement.{statement}
+use Rattle.ends.proofs.end_after.Tie as tie
 
 -- The constant part that the code computes.
 constant-is : (c : tie.After-wide2) → c .before .wide .result + c .wide2 .result - c .before .before .demand-in .result ≡ afterwards (now (c .before .before .before .before .before .args .periods)) (now (c .before .before .before .before .before .args .costs)) (c .before .before .before .before .before .args .n) (c .before .before .before .before .before .args .end) (c .before .before .before .before .before .args .held)

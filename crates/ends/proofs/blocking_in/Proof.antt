@@ -1,9 +1,9 @@
--- `global::ends::blocking_in` meets its contract: what it lends are the outer ceilings. Assumes nothing.
+-- `ends::blocking_in` meets its contract: what it lends are the outer ceilings. Assumes nothing.
 use borrow.Author.Needs.{needs}
 use Rattle.global.proofs.SeenLaws.{used-length}
 use Rattle.global.proofs.LentLaws.{ceilings-long, ceilings-used}
-use Rattle.global.proofs.ends.blocking_in.Statement.{statement}
-use Rattle.global.proofs.ends.blocking_in.Tie as tie
+use Rattle.ends.proofs.blocking_in.Statement.{statement}
+use Rattle.ends.proofs.blocking_in.Tie as tie
 
 array-share-prefix-ceilings : tie.Need-array-share-prefix-ceilings
 array-share-prefix-ceilings c = ceilings-long (c .before .args .g) (c .before .args .common) (c .before .pre .0) (c .before .pre .1 .0)

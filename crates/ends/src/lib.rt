@@ -1,8 +1,9 @@
 // The jobs of one subsystem by number: how many there are, where the budget of each ends, and where each ends with a
-// resource. `rows` goes through all of them; this is for whoever asks about one.
-use crate::Interfaces;
-use crate::blocking::blocking_of;
-use crate::ceilings::Common;
+// resource. The rows of crate `global` go through all of them; this is for whoever asks about one. Every function here is
+// proved, and the crate assumes nothing.
+use global::Common;
+use global::Interfaces;
+use global::blocking_of;
 use least::Least;
 use least::demand_in;
 use least::least_solution;

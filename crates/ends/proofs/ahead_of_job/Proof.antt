@@ -1,14 +1,14 @@
--- `global::ends::ahead_of_job` meets its contract: the jobs before job k take less than the active period. Assumes nothing.
+-- `ends::ahead_of_job` meets its contract: the jobs before job k take less than the active period. Assumes nothing.
 use Prim.Native.Nat.{_+_, _≤_}
 use native.Mathlib.Omega.{arith}
 use mathlib.Core.Path.{ap₂, _∙_}
 use borrow.Author.Needs.{needs}
 use Rattle.table.specs.Limits.{most}
 use Rattle.global.proofs.Slots.{few-of}
 use Rattle.global.proofs.ActiveLaws.{active-within}
 use Rattle.global.proofs.LentLaws.{lent-sound, ahead-lent, jobs-before}
-use Rattle.global.proofs.ends.ahead_of_job.Statement.{statement}
-use Rattle.global.proofs.ends.ahead_of_job.Tie as tie
+use Rattle.ends.proofs.ahead_of_job.Statement.{statement}
+use Rattle.ends.proofs.ahead_of_job.Tie as tie
 
 few : (s : tie.Start) → s .args .t1 .count ≤ most
 few s = few-of (s .args .t1) (s .pre .0)

@@ -1,11 +1,11 @@
--- `global::ends::budget_end` meets its contract: what it lends are the loads, and the search finds F(k). Assumes nothing.
+-- `ends::budget_end` meets its contract: what it lends are the loads, and the search finds F(k). Assumes nothing.
 use borrow.Author.Needs.{needs}
 use Rattle.global.specs.View.{viewOf}
 use Rattle.global.proofs.SeenLaws.{used-length}
 use Rattle.global.proofs.LentLaws.{periods-long, costs-long, periods-lent, costs-lent, lent-sound}
 use Rattle.global.proofs.EndsLaws.{budget-lent, budget-at}
-use Rattle.global.proofs.ends.budget_end.Statement.{statement}
-use Rattle.global.proofs.ends.budget_end.Tie as tie
+use Rattle.ends.proofs.budget_end.Statement.{statement}
+use Rattle.ends.proofs.budget_end.Tie as tie
 
 ahead-of-job-requires : tie.Need-ahead-of-job-requires
 ahead-of-job-requires c κs = search needs

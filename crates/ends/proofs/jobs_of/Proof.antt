@@ -1,4 +1,4 @@
--- `global::ends::jobs_of` meets its contract: the search's answer is the active period, or that there is none.
+-- `ends::jobs_of` meets its contract: the search's answer is the active period, or that there is none.
 -- Assumes nothing.
 use Prim.Native.Nat.{_≤_}
 use native.Mathlib.Omega.{arith}
@@ -7,18 +7,18 @@ use mathlib.Core.Option.{some}
 use borrow.Author.Needs.{needs}
 use Rattle.least.specs.Up.{up}
 use Rattle.table.specs.Limits.{most}
 use Rattle.global.specs.Interfaces.{meaningOf}
 use Rattle.global.specs.Blocking.{blocking}
 use Rattle.global.specs.View.{viewOf}
 use Rattle.global.specs.Ends.{activePeriod}
 use Rattle.global.specs.Sound.{Sound-view}
 use Rattle.global.proofs.Slots.{few-of}
 use Rattle.global.proofs.ActiveLaws.{active-from, period-pos}
 use Rattle.global.proofs.SeenLaws.{used-length}
 use Rattle.global.proofs.LentLaws.{periods-long, costs-long, periods-lent, costs-lent, period-lent, lent-sound}
 use Rattle.global.proofs.EndsLaws.{active-lent, active-at, active-beyond, jobs-with, jobs-without}
-use Rattle.global.proofs.ends.jobs_of.Statement.{statement}
-use Rattle.global.proofs.ends.jobs_of.Tie as tie
+use Rattle.ends.proofs.jobs_of.Statement.{statement}
+use Rattle.ends.proofs.jobs_of.Tie as tie
 
 few : (s : tie.Start) → s .args .g .count ≤ most
 few s = few-of (s .args .g) (s .pre .0)
