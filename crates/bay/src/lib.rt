@@ -79,7 +79,7 @@ pub extern "C" fn bay_rewrite(file: &[u8], buf: &mut [u8]) -> usize
         return 0;
     };
     let t = reading.table;
-    put_by(stored::write_table(t, buf))
+    put_by(writer::write_table(t, buf))
 }
 
 // How many bytes of text were printed.

@@ -1,7 +1,6 @@
-// The stored table: fields of bytes, the reader and the writer. `read_table` reads any bytes; `write_table` writes into
-// any buffer; `file_length` is how many bytes that takes. Every function here is proved, and the crate assumes nothing
-// of its own. No function of this file has a `requires`; those of `number` ask for the four bytes that they are to read
-// or to write.
+// The stored table: fields of bytes and the reader. `read_table` reads any bytes; crate `writer` writes. Every function
+// here is proved, and the crate assumes nothing of its own. No function of this file has a `requires`; those of `number`
+// ask for the four bytes that they are to read or to write.
 ghost use mathlib.Core.Path.{_≡_};
 ghost use Rattle.stored.specs.Judge.{faultNumber};
 ghost use Rattle.stored.specs.Read.{fileRefusal};
@@ -9,18 +8,14 @@ use rules::Place;
 use table::Subsystem;
 use table::Table;
 
-mod decode;
+pub mod decode;
 mod held;
-mod judge;
+pub mod judge;
 pub mod number;
-mod put;
 mod read;
-mod write;
 
 pub use held::table_is_held;
 pub use read::read_table;
-pub use write::file_length;
-pub use write::write_table;
 
 // What can be wrong with the rest of a file, from the current field on. specs/Judge.antt gives document 01's number of
 // each.
