@@ -3,3 +3,4 @@ pub mod Up
 pub mod Demand
 pub mod Search
 pub mod LeastLaws
+pub mod ShareLaws

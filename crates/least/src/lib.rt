@@ -3,11 +3,16 @@
 // Every function here is proved, and the crate assumes nothing.
 use numbers::wide;
 ghost use mathlib.Core.Path.{_≡_};
-ghost use Prim.Native.Nat.{_*_, _≤_, _<_, _^_};
+ghost use Prim.Native.Nat.{_*_, _/_, _≤_, _<_, _^_};
+ghost use lib.Dec.{ltb};
 ghost use Rattle.least.specs.Up.{up};
 ghost use Rattle.least.specs.Demand.{demand, total};
+ghost use Rattle.least.specs.Share.{unit, shares};
 ghost use Rattle.least.specs.Least.{least, answered};
 ghost use Rattle.least.specs.Search.{Loads, Search, Comes-down, IsLeast, reach};
+
+// Shares of a tick are counted in parts of this: 2 ^ 40.
+const UNIT: u64 = 1_099_511_627_776;
 
 // A least solution, or that none is at or below the bound.
 pub enum Least {
@@ -46,8 +51,30 @@ pub fn demand_in(periods: &[u32], costs: &[u32], n: usize, x: u32) -> u64
     sum
 }
 
+// What a load asks for of every tick, in parts of `UNIT`, rounded down.
+fn share_of(period: u32, cost: u32) -> u64
+    requires { ⌜ (1 ≤ period) × (cost < 2 ^ 20) ⌝ }
+    ensures { λ r. ⌜ (r ≡ cost * unit / period) × (r < 2 ^ 60) ⌝ }
+{
+    wide(cost) * UNIT / wide(period)
+}
+
+// Whether the first n loads ask for more than every tick has. They are then never done with what they have asked for.
+fn overloaded(periods: &[u32], costs: &[u32], n: usize) -> bool
+    requires { ⌜ Loads (now periods) (now costs) n ⌝ }
+    ensures { λ r. ⌜ r ≡ ltb unit (shares (now (periods .entry)) (now (costs .entry)) n) ⌝ }
+{
+    let mut sum: u64 = 0;
+    let mut j: usize = 0;
+    while j < n {
+        sum += share_of(periods[j], costs[j]);
+        j += 1;
+    }
+    UNIT < sum
+}
+
 // The least solution from 1 up to the bound, found from a start at which the search may stand.
-pub fn least_solution(
+fn search_up(
     periods: &[u32],
     costs: &[u32],
     n: usize,
@@ -69,6 +96,25 @@ pub fn least_solution(
         x = next;
     }
     Least::Beyond
+}
+
+// The same. Where the loads ask for more than every tick there is none, and nothing is searched.
+pub fn least_solution(
+    periods: &[u32],
+    costs: &[u32],
+    n: usize,
+    constant: u64,
+    start: u32,
+    bound: u32,
+) -> Least
+    requires { ⌜ Search (now periods) (now costs) n constant start ⌝ }
+    requires { ⌜ bound < reach ⌝ }
+    ensures { λ r. ⌜ r ≡ answered (least (now (periods .entry)) (now (costs .entry)) n constant bound) ⌝ }
+{
+    if overloaded(periods, costs, n) {
+        return Least::Beyond;
+    }
+    search_up(periods, costs, n, constant, start, bound)
 }
 
 // The least solution where the total is known to come down within reach, found from a start at which the search may

@@ -1,0 +1,17 @@
+-- What loads ask for of every tick: cost over period, in parts of a unit so that it is a whole number, rounded down.
+-- Assumes nothing.
+use Prim.Native.Nat.{ℕ, _*_, _/_, _^_}
+use mathlib.Core.List.{List}
+use lib.ListN.{getD}
+use Rattle.lists.specs.Range.{sumTo}
+
+-- The parts of a tick.
+abbrev pub unit : ℕ
+unit = 2 ^ 40
+
+-- The share of load t, and of the first n loads.
+unfoldable pub shareOf : List ℕ → List ℕ → ℕ → ℕ
+shareOf periods costs t = getD costs t 0 * unit / getD periods t 0
+
+unfoldable pub shares : List ℕ → List ℕ → ℕ → ℕ
+shares periods costs n = sumTo (shareOf periods costs) n
