@@ -73,32 +73,8 @@ fn overloaded(periods: &[u32], costs: &[u32], n: usize) -> bool
     UNIT < sum
 }
 
-// The least solution from 1 up to the bound, found from a start at which the search may stand.
-fn search_up(
-    periods: &[u32],
-    costs: &[u32],
-    n: usize,
-    constant: u64,
-    start: u32,
-    bound: u32,
-) -> Least
-    requires { ⌜ Search (now periods) (now costs) n constant start ⌝ }
-    requires { ⌜ bound < reach ⌝ }
-    ensures { λ r. ⌜ r ≡ answered (least (now (periods .entry)) (now (costs .entry)) n constant bound) ⌝ }
-{
-    let top = wide(bound);
-    let mut x = wide(start);
-    while x <= top {
-        let next = constant + demand_in(periods, costs, n, x as u32);
-        if next == x {
-            return Least::At(x as u32);
-        }
-        x = next;
-    }
-    Least::Beyond
-}
-
-// The same. Where the loads ask for more than every tick there is none, and nothing is searched.
+// The least solution from 1 up to the bound, found from a start at which the search may stand. Where the loads ask for more
+// than every tick there is none, and nothing is searched.
 pub fn least_solution(
     periods: &[u32],
     costs: &[u32],
@@ -114,7 +90,16 @@ pub fn least_solution(
     if overloaded(periods, costs, n) {
         return Least::Beyond;
     }
-    search_up(periods, costs, n, constant, start, bound)
+    let top = wide(bound);
+    let mut x = wide(start);
+    while x <= top {
+        let next = constant + demand_in(periods, costs, n, x as u32);
+        if next == x {
+            return Least::At(x as u32);
+        }
+        x = next;
+    }
+    Least::Beyond
 }
 
 // The least solution where the total is known to come down within reach, found from a start at which the search may
