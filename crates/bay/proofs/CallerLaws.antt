@@ -29,7 +29,7 @@ use Rattle.text.proofs.BufferLaws.{length-is-answered}
 use Rattle.text.proofs.TextShape.{text-ends-in-LF}
 use Rattle.bay.specs.Judgement.{tableJudgement, judgementFor, judgementOf}
 use Rattle.bay.specs.Lent.{printedBy, textSize, rewriteOf, rewriteAfter}
-use Rattle.bay.proofs.ReadCounts.{read-counts-pass}
+use Rattle.stored.proofs.WholeCounts.{read-counts-pass}
 
 ------------------------------------------------------------------------
 -- The text: 0 says that the buffer is too short, and nothing else

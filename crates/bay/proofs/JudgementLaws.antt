@@ -2,7 +2,7 @@
 use Prim.Native.Nat.{ℕ}
 use mathlib.Core.Path.{_≡_, refl, sym, ap, _∙_}
 use mathlib.Core.List.{List}
-use Rattle.table.specs.Meaning.{meaning}
+use Rattle.table.specs.Meaning.{System, meaning}
 use Rattle.rules.specs.declared.Rule.{Rule}
 use Rattle.rules.specs.declared.Place.{Place}
 use Rattle.rules.specs.declared.Judged.{Judged}
@@ -13,7 +13,6 @@ use Rattle.stored.specs.declared.Fault.{Fault}
 use Rattle.stored.specs.declared.FileRefusal.{FileRefusal}
 use Rattle.stored.specs.declared.ReadAnswer.{ReadAnswer}
 use Rattle.stored.specs.declared.ReadAnswer.the-variants.{Whole, Refused as RefusedFile}
-use Rattle.stored.specs.declared.Reading.{Reading}
 use Rattle.stored.specs.Read.{fileRefusal, readOf}
 use Rattle.bay.specs.declared.Judgement.{Judgement}
 use Rattle.bay.specs.Judgement.{fileJudgement, tableJudgement, judgementFor, judgementOf}
@@ -29,22 +28,22 @@ module _ (j : Judged) where
   unfolding tableJudgement
   refused-judgement k p n e f = rw (e, f) refl
 
-module _ (file : List ℕ) (reading : Reading) (e : reading ≡ readOf file) where
-  pub answer-of : (a : ReadAnswer) → reading .answer ≡ a → readOf file .answer ≡ a
-  answer-of a h = sym (ap (λ (r : Reading). r .answer) e) ∙ h
+module _ (file : List ℕ) (answer : ReadAnswer) (e : answer ≡ readOf file .answer) where
+  pub answer-of : (a : ReadAnswer) → answer ≡ a → readOf file .answer ≡ a
+  answer-of a h = sym e ∙ h
 
   pub judgement-of-refused :
-      (f : Fault) (at : ℕ) (r : FileRefusal) (j : Judgement) → reading .answer ≡ RefusedFile f at →
-      r ≡ fileRefusal (reading .answer) → j ≡ fileJudgement r → j ≡ judgementOf file
+      (f : Fault) (at : ℕ) (r : FileRefusal) (j : Judgement) → answer ≡ RefusedFile f at →
+      r ≡ fileRefusal answer → j ≡ fileJudgement r → j ≡ judgementOf file
   unfolding judgementOf
   judgement-of-refused f at r j h q g =
       g ∙ ap fileJudgement (q ∙ ap fileRefusal h) ∙
       sym (ap (λ (a : ReadAnswer). judgementFor a (meaning (readOf file .table))) (answer-of (RefusedFile f at) h))
 
   pub judgement-of-read :
-      (k : Judged) (j : Judgement) → reading .answer ≡ Whole → k ≡ judgeOf (meaning (reading .table)) → j ≡ tableJudgement k →
-      j ≡ judgementOf file
+      (sys : System) (k : Judged) (j : Judgement) → answer ≡ Whole → sys ≡ meaning (readOf file .table) → k ≡ judgeOf sys →
+      j ≡ tableJudgement k → j ≡ judgementOf file
   unfolding judgementOf
-  judgement-of-read k j h q g =
-      g ∙ ap tableJudgement (q ∙ ap (λ (r : Reading). judgeOf (meaning (r .table))) e) ∙
+  judgement-of-read sys k j h s q g =
+      g ∙ ap tableJudgement (q ∙ ap judgeOf s) ∙
       sym (ap (λ (a : ReadAnswer). judgementFor a (meaning (readOf file .table))) (answer-of Whole h))

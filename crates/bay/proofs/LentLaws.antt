@@ -6,9 +6,8 @@ use mathlib.Core.List.{List}
 use lib.ListN.{length, replicate}
 use borrow.Author.Tests.{lt-ltb, le-ltb}
 use Rattle.table.specs.Limits.{most}
-use Rattle.table.specs.Meaning.{meaning}
+use Rattle.table.specs.Meaning.{System, meaning}
 use Rattle.table.specs.Parts.{subsystemCount}
-use Rattle.table.proofs.Parts.{count-of-subsystems}
 use Rattle.global.specs.declared.Row.{Row}
 use Rattle.report.specs.declared.Report.{Report}
 use Rattle.report.specs.Report.{noRow, reportOf}
@@ -57,11 +56,11 @@ text-is-printed file buf after p n h e = e ∙ ap printedBy (h .answered)
 ------------------------------------------------------------------------
 -- A file that is read
 
-module _ (file : List ℕ) (reading : Reading) (e : reading ≡ readOf file) where
-  -- The figures of a refused file, and of a file that is a table.
+-- The figures of a refused file, and of a file that is a table.
+module _ (file : List ℕ) (answer : ReadAnswer) (e : answer ≡ readOf file .answer) where
   pub refused-figures :
-      (f : Fault) (at : ℕ) (r : FileRefusal) (j : Judgement) (row : Row) → reading .answer ≡ Refused f at →
-      r ≡ fileRefusal (reading .answer) → j ≡ fileJudgement r → row ≡ noRow →
+      (f : Fault) (at : ℕ) (r : FileRefusal) (j : Judgement) (row : Row) → answer ≡ Refused f at →
+      r ≡ fileRefusal answer → j ≡ fileJudgement r → row ≡ noRow →
       figures j false 0 (replicate most row) ≡ figuresIn file
   unfolding figuresIn
   refused-figures f at r j row h q g z =
@@ -69,16 +68,19 @@ module _ (file : List ℕ) (reading : Reading) (e : reading ≡ readOf file) whe
       (g ∙ ap fileJudgement (q ∙ ap fileRefusal h)) z ∙
       sym
       (ap (λ (a : ReadAnswer). figuresFor a (meaning (readOf file .table)))
-      (answer-of file reading e (Refused f at) h))
+      (answer-of file answer e (Refused f at) h))
 
   pub read-figures :
-      (report : Report) → reading .answer ≡ Whole → report ≡ reportOf (meaning (reading .table)) →
-      figuresOf report (reading .table .count) ≡ figuresIn file
+      (report : Report) (sys : System) (n : ℕ) → answer ≡ Whole → sys ≡ meaning (readOf file .table) → report ≡ reportOf sys →
+      n ≡ subsystemCount sys → figuresOf report n ≡ figuresIn file
   unfolding figuresIn
-  read-figures report h q =
-      ap₂ figuresOf (q ∙ ap (λ (r : Reading). reportOf (meaning (r .table))) e)
-      (sym (count-of-subsystems (reading .table)) ∙ ap (λ (r : Reading). subsystemCount (meaning (r .table))) e) ∙
-      sym (ap (λ (a : ReadAnswer). figuresFor a (meaning (readOf file .table))) (answer-of file reading e Whole h))
+  read-figures report sys n h s q c =
+      ap₂ figuresOf (q ∙ ap reportOf s) (c ∙ ap subsystemCount s) ∙
+      sym (ap (λ (a : ReadAnswer). figuresFor a (meaning (readOf file .table))) (answer-of file answer e Whole h))
+
+module _ (file : List ℕ) (reading : Reading) (e : reading ≡ readOf file) where
+  same-answer : reading .answer ≡ readOf file .answer
+  same-answer = ap (λ (r : Reading). r .answer) e
 
   -- What is written back of a refused file, and of a file that is a table.
   pub refused-rewrite :
@@ -86,7 +88,7 @@ module _ (file : List ℕ) (reading : Reading) (e : reading ≡ readOf file) whe
       (0 ≡ rewriteOf file (length buf)) × (buf ≡ rewriteAfter file buf)
   unfolding rewriteOf rewriteAfter
   refused-rewrite buf f at h =
-      let a : readOf file .answer ≡ Refused f at = answer-of file reading e (Refused f at) h in (
+      let a : readOf file .answer ≡ Refused f at = answer-of file (reading .answer) same-answer (Refused f at) h in (
         sym (ap (λ (x : ReadAnswer). rewriteFor x (meaning (readOf file .table)) (length buf)) a),
         sym (ap (λ (x : ReadAnswer). rewriteLeft x (meaning (readOf file .table)) buf) a),
       )
@@ -97,7 +99,7 @@ module _ (file : List ℕ) (reading : Reading) (e : reading ≡ readOf file) whe
       (n ≡ rewriteOf file (length buf)) × (after ≡ rewriteAfter file buf)
   unfolding rewriteOf rewriteAfter
   read-rewrite buf after w n h q l g =
-      let a : readOf file .answer ≡ Whole = answer-of file reading e Whole h in (
+      let a : readOf file .answer ≡ Whole = answer-of file (reading .answer) same-answer Whole h in (
         g ∙ ap putBy (q ∙ ap (λ (r : Reading). writeOf (meaning (r .table)) (length buf)) e) ∙
             sym (ap (λ (x : ReadAnswer). rewriteFor x (meaning (readOf file .table)) (length buf)) a),
         l ∙ ap (λ (r : Reading). bufferAfter (meaning (r .table)) buf) e ∙

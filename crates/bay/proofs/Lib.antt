@@ -4,6 +4,5 @@ pub mod FigureLaws
 pub mod JudgementLaws
 pub mod LentLaws
 pub mod CountLaws
-pub mod ReadCounts
 pub mod CallerLaws
 pub mod OffsetLaws

@@ -15,12 +15,15 @@ use crate::judging::file_judgement;
 use crate::judging::table_judgement;
 use global::Outcome;
 use global::Row;
+use numbers::index;
 use report::Report;
 use report::rows::no_row;
 use rules::Judged;
 use stored::ReadAnswer;
 use stored::number::put_number;
 use table::Table;
+use table::grid::BLOCK;
+use table::grid::LINE;
 use text::response;
 
 // How many figures stand before the rows, and in a row.
@@ -148,14 +151,15 @@ pub fn put_file(free: &mut [u8], file: &[u8]) -> usize
     requires { ⌜ reportSize ≤ length (now free) ⌝ }
     ensures { λ r. ⌜ IsPut (flatMap numberBytes (figuresIn (now (file .entry)))) (now (free .entry)) (now (free .exit)) r ⌝ }
 {
-    let reading = stored::read_table(file);
-    let answer = reading.answer;
+    let mut grid = [[[0u32; LINE]; BLOCK]; Table::MOST];
+    let head = stored::read_grid(file, &mut grid);
+    let answer = head.answer;
     let ReadAnswer::Whole = answer else {
         let j = file_judgement(stored::file_refusal(answer));
         return put_figures(free, j, false, 0, [no_row(); Table::MOST]);
     };
-    let t = reading.table;
-    put_report(free, report::analyse(t), t.count)
+    let report = report::report_of(&grid, index(head.count), index(head.resources));
+    put_report(free, report, head.count)
 }
 
 // The two numbers of a judgement's place.

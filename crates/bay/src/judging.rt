@@ -3,10 +3,15 @@ ghost use mathlib.Core.Path.{_≡_};
 ghost use Prim.Native.Nat.{_<_, _^_};
 ghost use Rattle.bay.specs.Judgement.{fileJudgement, tableJudgement, judgementOf};
 use crate::Judgement;
+use numbers::index;
 use rules::Judged;
+use rules::judging::judge_grid;
 use rules::places::rule_number;
 use stored::FileRefusal;
 use stored::ReadAnswer;
+use table::Table;
+use table::grid::BLOCK;
+use table::grid::LINE;
 
 // The judgement of a file that is refused so.
 pub fn file_judgement(refusal: FileRefusal) -> Judgement
@@ -42,11 +47,18 @@ pub fn table_judgement(judged: Judged) -> Judgement
 pub fn judge_file(file: &[u8]) -> Judgement
     ensures { λ r. ⌜ r ≡ judgementOf (now (file .entry)) ⌝ }
 {
-    let reading = stored::read_table(file);
-    let answer = reading.answer;
+    let mut grid = [[[0u32; LINE]; BLOCK]; Table::MOST];
+    let head = stored::read_grid(file, &mut grid);
+    let answer = head.answer;
     let ReadAnswer::Whole = answer else {
         return file_judgement(stored::file_refusal(answer));
     };
-    let t = reading.table;
-    table_judgement(rules::judging::judge(t))
+    let mut holdings = [[0u64; Table::MOST]; Table::MOST];
+    let judged = judge_grid(
+        &grid,
+        index(head.count),
+        index(head.resources),
+        &mut holdings,
+    );
+    table_judgement(judged)
 }

@@ -5,6 +5,5 @@ use libc::STDIN_FILENO;
 fn main() {
     let mut file = [0u8; 4096];
     let n = io::read_full(STDIN_FILENO, &mut file);
-    let mut buf = [0u8; text::ROOM];
-    printing::print_text(&file[..n], &mut buf);
+    printing::print_text(&file[..n]);
 }

@@ -5,8 +5,12 @@
 ghost use mathlib.Core.Path.{_≡_};
 ghost use Prim.Native.Nat.{_≤_};
 ghost use lib.ListN;
+ghost use Rattle.table.specs.Grid.{HasBlocks};
 use libc::STDIN_FILENO;
 use libc::STDOUT_FILENO;
+use table::Table;
+use table::grid::BLOCK;
+use table::grid::LINE;
 
 // A line: words, the number of the file, and the line's end.
 fn say(words: &[u8], k: u32) {
@@ -15,19 +19,19 @@ fn say(words: &[u8], k: u32) {
     io::write_all(STDOUT_FILENO, b"\n");
 }
 
-// Passes over so many bytes of the input; false where they do not all come. Few files are so long: the space for it is its
-// own, and is made only then.
-fn pass_over(bytes: u32) -> bool {
+// Passes over so many bytes of the input, by way of the space; false where they do not all come.
+fn pass_over(bytes: u32, space: &mut [u8]) -> bool
+    requires { ⌜ ListN.length (now space) ≡ 2048 ⌝ }
+{
     if bytes == 0 {
         return true;
     }
     let mut left = bytes;
-    let mut space = [0u8; 4096];
-    while 4096 < left {
-        if io::read_full(STDIN_FILENO, &mut space) < 4096 {
+    while 2048 < left {
+        if io::read_full(STDIN_FILENO, space) < 2048 {
             return false;
         }
-        left -= 4096;
+        left -= 2048;
     }
     let last = left as usize;
     last <= io::read_full(STDIN_FILENO, &mut space[..last])
@@ -46,26 +50,42 @@ fn judged_part(length: u32) -> u32
     if length < 4096 { length } else { 4096 }
 }
 
-// Judges file k, of so many bytes, in a space of 4,096; false where they do not all come. The text is made up in `buf`.
-fn judge_file(k: u32, length: u32, space: &mut [u8], buf: &mut [u8]) -> bool
-    requires { ⌜ ListN.length (now space) ≡ 4096 ⌝ }
+// Judges file k, of so many bytes, in a space of 4,096; false where they do not all come. The table goes into the grid, and the
+// text is made up in `buf`.
+fn judge_file(
+    k: u32,
+    length: u32,
+    space: &mut [u8],
+    grid: &mut [[[u32; LINE]; BLOCK]; Table::MOST],
+    buf: &mut [u8],
+) -> bool
+    requires { ⌜ (ListN.length (now space) ≡ 4096) × (ListN.length (now buf) ≡ 2048) ⌝ }
+    requires { ⌜ HasBlocks (now grid) ⌝ }
+    ensures { λ _. ⌜ HasBlocks (now (grid .exit)) ⌝ }
 {
     let part = judged_part(length);
     let wanted = part as usize;
     if io::read_full(STDIN_FILENO, &mut space[..wanted]) < wanted {
         return broken(k);
     }
-    if !pass_over(length - part) {
+    if !pass_over(length - part, buf) {
         return broken(k);
     }
     say(b"file ", k);
-    printing::print_text(&space[..wanted], buf);
+    printing::print_text_in(&space[..wanted], grid, buf);
     true
 }
 
 // Judges the next file, number k; false where there is none, or its frame is broken.
-fn judge_next(k: u32, space: &mut [u8], buf: &mut [u8]) -> bool
-    requires { ⌜ ListN.length (now space) ≡ 4096 ⌝ }
+fn judge_next(
+    k: u32,
+    space: &mut [u8],
+    grid: &mut [[[u32; LINE]; BLOCK]; Table::MOST],
+    buf: &mut [u8],
+) -> bool
+    requires { ⌜ (ListN.length (now space) ≡ 4096) × (ListN.length (now buf) ≡ 2048) ⌝ }
+    requires { ⌜ HasBlocks (now grid) ⌝ }
+    ensures { λ _. ⌜ HasBlocks (now (grid .exit)) ⌝ }
 {
     let mut head = [0u8; 4];
     let came = io::read_full(STDIN_FILENO, &mut head);
@@ -76,16 +96,17 @@ fn judge_next(k: u32, space: &mut [u8], buf: &mut [u8]) -> bool
         return broken(k);
     }
     let length = stored::number::number_at(&head, 0);
-    judge_file(k, length, space, buf)
+    judge_file(k, length, space, grid, buf)
 }
 
 // A proved loop has to end, and nothing says that standard input does: the number of files is bounded, by one that no run
-// uses up. All files share the space and the buffer, which are cleared once.
+// uses up. All files share the space, the grid and the buffer, which are cleared once.
 fn main() {
     let mut space = [0u8; 4096];
+    let mut grid = [[[0u32; LINE]; BLOCK]; Table::MOST];
     let mut buf = [0u8; text::ROOM];
     let mut k: u32 = 1;
-    while k < u32::MAX && judge_next(k, &mut space, &mut buf) {
+    while k < u32::MAX && judge_next(k, &mut space, &mut grid, &mut buf) {
         k += 1;
     }
 }

@@ -2,8 +2,9 @@
 // resource. The rows of crate `global` go through all of them; this is for whoever asks about one. Every function here is
 // proved, and the crate assumes nothing.
 use global::Common;
-use global::Interfaces;
 use global::blocking_of;
+use global::interfaces;
+use global::interfaces::WIDTH;
 use least::Least;
 use least::demand_in;
 use least::least_solution;
@@ -15,7 +16,7 @@ ghost use mathlib.Core.Path.{_≡_};
 ghost use Prim.Native.Nat.{_<_};
 ghost use Rattle.least.specs.Demand.{total};
 ghost use Rattle.least.specs.Search.{IsLeast};
-ghost use Rattle.global.specs.Interfaces.{meaningOf};
+ghost use Rattle.global.specs.Interfaces.{interfacesIn};
 ghost use Rattle.global.specs.Blocking.{blocking};
 ghost use Rattle.global.specs.View.{viewOf, held};
 ghost use Rattle.global.specs.Ends.{ahead, budgetEnd, jobEnd};
@@ -25,28 +26,39 @@ ghost use Rattle.global.specs.Computed.{afterwards, After};
 ghost use Rattle.global.specs.Sound.{Sound, Counted};
 
 // B(s), from what the rows share.
-fn blocking_in(g: Interfaces, common: Common, s: usize) -> u32
-    requires { ⌜ Sound (meaningOf g) ⌝ }
-    requires { ⌜ common ≡ commonOf (meaningOf g) ⌝ }
-    requires { ⌜ s < g .count ⌝ }
-    ensures { λ r. ⌜ r ≡ blocking (meaningOf g) s ⌝ }
+fn blocking_in(
+    lines: &[[u32; WIDTH]; Table::MOST],
+    n: usize,
+    m: usize,
+    common: Common,
+    s: usize,
+) -> u32
+    requires { ⌜ Sound (interfacesIn n m (now lines)) ⌝ }
+    requires { ⌜ common ≡ commonOf (interfacesIn n m (now lines)) ⌝ }
+    requires { ⌜ s < n ⌝ }
+    ensures { λ r. ⌜ r ≡ blocking (interfacesIn n m (now (lines .entry))) s ⌝ }
 {
-    let m = g.resources;
     let ceilings = common.ceilings;
-    blocking_of(g, &ceilings[..m], s)
+    let costs = common.costs;
+    blocking_of(lines, n, m, &costs[..n], &ceilings[..m], s)
 }
 
 // The number of jobs in the active period of subsystem s, 0 where none ends within the horizon.
-pub fn jobs_of(g: Interfaces, common: Common, s: usize) -> u32
-    requires { ⌜ Sound (meaningOf g) ⌝ }
-    requires { ⌜ common ≡ commonOf (meaningOf g) ⌝ }
-    requires { ⌜ s < g .count ⌝ }
-    ensures { λ r. ⌜ r ≡ jobCount (viewOf (meaningOf g) s) ⌝ }
+pub fn jobs_of(
+    lines: &[[u32; WIDTH]; Table::MOST],
+    n: usize,
+    m: usize,
+    common: Common,
+    s: usize,
+) -> u32
+    requires { ⌜ Sound (interfacesIn n m (now lines)) ⌝ }
+    requires { ⌜ common ≡ commonOf (interfacesIn n m (now lines)) ⌝ }
+    requires { ⌜ s < n ⌝ }
+    ensures { λ r. ⌜ r ≡ jobCount (viewOf (interfacesIn n m (now (lines .entry))) s) ⌝ }
 {
-    let n = g.count;
     let periods = common.periods;
     let costs = common.costs;
-    let blocking = wide(blocking_in(g, common, s));
+    let blocking = wide(blocking_in(lines, n, m, common, s));
     let Least::At(active) = least_solution(
         &periods[..n],
         &costs[..n],
@@ -61,31 +73,43 @@ pub fn jobs_of(g: Interfaces, common: Common, s: usize) -> u32
 }
 
 // What job k waits for besides higher subsystems: B(s) + k × (Q + X) + Q.
-fn ahead_of_job(g: Interfaces, common: Common, s: usize, k: u32) -> u64
-    requires { ⌜ Sound (meaningOf g) ⌝ }
-    requires { ⌜ common ≡ commonOf (meaningOf g) ⌝ }
-    requires { ⌜ s < g .count ⌝ }
-    requires { ⌜ Counted (viewOf (meaningOf g) s) k ⌝ }
-    ensures { λ r. ⌜ r ≡ ahead (viewOf (meaningOf g) s) k ⌝ }
+fn ahead_of_job(
+    lines: &[[u32; WIDTH]; Table::MOST],
+    n: usize,
+    m: usize,
+    common: Common,
+    s: usize,
+    k: u32,
+) -> u64
+    requires { ⌜ Sound (interfacesIn n m (now lines)) ⌝ }
+    requires { ⌜ common ≡ commonOf (interfacesIn n m (now lines)) ⌝ }
+    requires { ⌜ s < n ⌝ }
+    requires { ⌜ Counted (viewOf (interfacesIn n m (now lines)) s) k ⌝ }
+    ensures { λ r. ⌜ r ≡ ahead (viewOf (interfacesIn n m (now (lines .entry))) s) k ⌝ }
 {
-    let i = g.interfaces[s];
     let costs = common.costs;
     let before = k * costs[s];
-    wide(blocking_in(g, common, s)) + wide(before) + wide(i.budget)
+    wide(blocking_in(lines, n, m, common, s)) + wide(before) + wide(interfaces::budget(lines, s))
 }
 
 // F(k): the end of job k's budget.
-pub fn budget_end(g: Interfaces, common: Common, s: usize, k: u32) -> u32
-    requires { ⌜ Sound (meaningOf g) ⌝ }
-    requires { ⌜ common ≡ commonOf (meaningOf g) ⌝ }
-    requires { ⌜ s < g .count ⌝ }
-    requires { ⌜ Counted (viewOf (meaningOf g) s) k ⌝ }
-    ensures { λ r. ⌜ r ≡ budgetEnd (viewOf (meaningOf g) s) k ⌝ }
+pub fn budget_end(
+    lines: &[[u32; WIDTH]; Table::MOST],
+    n: usize,
+    m: usize,
+    common: Common,
+    s: usize,
+    k: u32,
+) -> u32
+    requires { ⌜ Sound (interfacesIn n m (now lines)) ⌝ }
+    requires { ⌜ common ≡ commonOf (interfacesIn n m (now lines)) ⌝ }
+    requires { ⌜ s < n ⌝ }
+    requires { ⌜ Counted (viewOf (interfacesIn n m (now lines)) s) k ⌝ }
+    ensures { λ r. ⌜ r ≡ budgetEnd (viewOf (interfacesIn n m (now (lines .entry))) s) k ⌝ }
 {
-    let n = g.count;
     let periods = common.periods;
     let costs = common.costs;
-    let ahead = ahead_of_job(g, common, s, k);
+    let ahead = ahead_of_job(lines, n, m, common, s, k);
     least_within(&periods[..n], &costs[..n], s, ahead, 1)
 }
 
@@ -100,19 +124,31 @@ fn end_after(periods: &[u32], costs: &[u32], n: usize, end: u32, held: u32) -> u
 }
 
 // The end of job k with resource l, which subsystem s holds for a time. The search goes on from where the budget ends.
-pub fn job_end(g: Interfaces, common: Common, s: usize, k: u32, l: usize) -> u32
-    requires { ⌜ Sound (meaningOf g) ⌝ }
-    requires { ⌜ common ≡ commonOf (meaningOf g) ⌝ }
-    requires { ⌜ s < g .count ⌝ }
-    requires { ⌜ Counted (viewOf (meaningOf g) s) k ⌝ }
-    requires { ⌜ (l < g .resources) × (0 < held (viewOf (meaningOf g) s) l) ⌝ }
-    ensures { λ r. ⌜ r ≡ jobEnd (viewOf (meaningOf g) s) k l ⌝ }
+pub fn job_end(
+    lines: &[[u32; WIDTH]; Table::MOST],
+    n: usize,
+    m: usize,
+    common: Common,
+    s: usize,
+    k: u32,
+    l: usize,
+) -> u32
+    requires { ⌜ Sound (interfacesIn n m (now lines)) ⌝ }
+    requires { ⌜ common ≡ commonOf (interfacesIn n m (now lines)) ⌝ }
+    requires { ⌜ s < n ⌝ }
+    requires { ⌜ Counted (viewOf (interfacesIn n m (now lines)) s) k ⌝ }
+    requires { ⌜ (l < m) × (0 < held (viewOf (interfacesIn n m (now lines)) s) l) ⌝ }
+    ensures { λ r. ⌜ r ≡ jobEnd (viewOf (interfacesIn n m (now (lines .entry))) s) k l ⌝ }
 {
-    let n = g.count;
-    let i = g.interfaces[s];
     let periods = common.periods;
     let costs = common.costs;
     let ceilings = common.ceilings;
-    let end = budget_end(g, common, s, k);
-    end_after(&periods[..n], &costs[..n], ceilings[l], end, i.holding[l])
+    let end = budget_end(lines, n, m, common, s, k);
+    end_after(
+        &periods[..n],
+        &costs[..n],
+        ceilings[l],
+        end,
+        interfaces::held(lines, s, l),
+    )
 }

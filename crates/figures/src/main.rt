@@ -13,7 +13,9 @@ use report::jobs::JobEnd;
 use report::jobs::job_end;
 use table::Subsystem;
 use table::Table;
-use table::columns::take_columns;
+use table::grid::BLOCK;
+use table::grid::LINE;
+use table::grid::lay_out_subsystem;
 
 // A line with the supply of a window of x ticks.
 fn supply(period: u32, budget: u32, end: u32, x: u32)
@@ -122,18 +124,9 @@ fn table_c() {
 fn inner_ceiling(sub: Subsystem) -> u64
     requires { ⌜ sub .count ≡ 2 ⌝ }
 {
-    let mut separations = [0u32; Table::MOST];
-    let mut works = [0u32; Table::MOST];
-    let mut deadlines = [0u32; Table::MOST];
-    let mut accesses = [[0u32; Table::MOST]; Table::MOST];
-    take_columns(
-        sub,
-        &mut separations,
-        &mut works,
-        &mut deadlines,
-        &mut accesses,
-    );
-    let ceiling = rules::holding::inner_ceiling(sub, 1, 0, &accesses) + 1;
+    let mut block = [[0u32; LINE]; BLOCK];
+    lay_out_subsystem(sub, &mut block);
+    let ceiling = rules::holding::inner_ceiling(&block, 1, 0) + 1;
     ceiling as u64
 }
 

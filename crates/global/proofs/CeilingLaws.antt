@@ -3,53 +3,54 @@ use Prim.Native.Nat.{ℕ, _+_, _-_, _≤_, _<_}
 use native.Mathlib.Nat.{sub-zero}
 use native.Mathlib.Omega.{arith}
 use mathlib.Core.Path.{_≡_, refl, sym, ap, _∙_}
+use mathlib.Core.List.{List}
 use mathlib.Core.Option.{Option, none, some}
 use mathlib.Core.Logic.{⊎-elim}
 use lib.Dec.{ltb}
-use lib.ListN.{getD}
 use borrow.Author.Tests.{lt-ltb, le-ltb, ltb-false}
 use Rattle.lists.specs.Range.{firstSuch}
-use Rattle.lists.proofs.First.{firstSuch-here, firstSuch-next, firstSuch-over, firstSuch-means, firstSuch-none}
+use Rattle.lists.proofs.First.{firstSuch-here, firstSuch-next, firstSuch-over, firstSuch-means, firstSuch-none, firstSuch-ext}
 use Rattle.lists.proofs.Over.{le-or-lt}
-use Rattle.global.specs.declared.Interfaces.{Interfaces}
-use Rattle.global.specs.Interfaces.{InterfacesM, meaningOf}
+use Rattle.global.specs.Interfaces.{InterfacesM, heldAt, interfacesIn}
 use Rattle.global.specs.Parts.{count, holdingOf}
 use Rattle.global.specs.Blocking.{numberOr, accesses, outerCeiling}
-use Rattle.global.proofs.Slots.{slot, count-of, holding-of-slot}
+use Rattle.global.specs.Blocked.{accessesIn, ceilingIn}
+use Rattle.global.proofs.Slots.{count-of, holding-of-slot}
 
 -- What is left of the search for the lowest access to l when it stands at subsystem s.
-abbrev pub leftFrom : Interfaces → ℕ → ℕ → Option ℕ
-leftFrom g l s = firstSuch (accesses (meaningOf g) l) (g .count - s) s
+abbrev pub leftFrom : List (List ℕ) → ℕ → ℕ → ℕ → Option ℕ
+leftFrom lines n l s = firstSuch (accessesIn lines l) (n - s) s
 
-module _ (g : Interfaces) (l : ℕ) where
-  by-search : {o : Option ℕ} → leftFrom g l 0 ≡ o → outerCeiling (meaningOf g) l ≡ numberOr (g .count - 1) o
-  unfolding outerCeiling
+module _ (lines : List (List ℕ)) (n l : ℕ) where
+  by-search : {o : Option ℕ} → leftFrom lines n l 0 ≡ o → ceilingIn lines n l ≡ numberOr (n - 1) o
+  unfolding ceilingIn
   by-search {o} e =
-      ap (λ (n : ℕ). numberOr (n - 1) (firstSuch (accesses (meaningOf g) l) n 0)) (count-of g) ∙
-      ap (λ (n : ℕ). numberOr (g .count - 1) (firstSuch (accesses (meaningOf g) l) n 0)) (sym (sub-zero (g .count))) ∙
-      ap (numberOr (g .count - 1)) e
+      ap (λ (k : ℕ). numberOr (n - 1) (firstSuch (accessesIn lines l) k 0)) (sym (sub-zero n)) ∙
+      ap (numberOr (n - 1)) e
 
-  module _ (k : l < g .resources) where
-    accesses-of-slot : (s : ℕ) → s < g .count → accesses (meaningOf g) l s ≡ ltb 0 (getD (slot g s .holding) l 0)
-    unfolding accesses
-    accesses-of-slot s h = ap (ltb 0) (holding-of-slot g s l h k)
+  -- An access at s: that is the ceiling.
+  pub ceiling-here : (s : ℕ) → s < n → {x : ℕ} → x ≡ heldAt lines s l → 0 < x → leftFrom lines n l s ≡ leftFrom lines n l 0 → s ≡ ceilingIn lines n l
+  unfolding accessesIn
+  ceiling-here s h q u e =
+      sym (by-search (sym e ∙ firstSuch-here (accessesIn lines l) n s h (lt-ltb 0 (heldAt lines s l) (omega (arith, q)))))
 
-    -- An access at s: that is the ceiling.
-    pub ceiling-here : (s : ℕ) → s < g .count → 0 < getD (slot g s .holding) l 0 → leftFrom g l s ≡ leftFrom g l 0 → s ≡ outerCeiling (meaningOf g) l
-    ceiling-here s h u e =
-        sym
-        (by-search
-        (sym e ∙
-        firstSuch-here (accesses (meaningOf g) l) (g .count) s h (accesses-of-slot s h ∙ lt-ltb _ _ u)))
-
-    -- None at s: the search goes on.
-    pub ceiling-next : (s : ℕ) → s < g .count → getD (slot g s .holding) l 0 ≤ 0 → leftFrom g l (s + 1) ≡ leftFrom g l s
-    ceiling-next s h u =
-        sym (firstSuch-next (accesses (meaningOf g) l) (g .count) s h (accesses-of-slot s h ∙ le-ltb _ _ u))
+  -- None at s: the search goes on.
+  pub ceiling-next : (s : ℕ) → s < n → {x : ℕ} → x ≡ heldAt lines s l → x ≤ 0 → leftFrom lines n l (s + 1) ≡ leftFrom lines n l s
+  unfolding accessesIn
+  ceiling-next s h q u = sym (firstSuch-next (accessesIn lines l) n s h (le-ltb 0 (heldAt lines s l) (omega (arith, q))))
 
   -- None at all: the last.
-  pub ceiling-over : (s : ℕ) → g .count ≤ s → leftFrom g l s ≡ leftFrom g l 0 → g .count - 1 ≡ outerCeiling (meaningOf g) l
-  ceiling-over s h e = sym (by-search (sym e ∙ firstSuch-over (accesses (meaningOf g) l) (g .count) s h))
+  pub ceiling-over : (s : ℕ) → n ≤ s → leftFrom lines n l s ≡ leftFrom lines n l 0 → n - 1 ≡ ceilingIn lines n l
+  ceiling-over s h e = sym (by-search (sym e ∙ firstSuch-over (accessesIn lines l) n s h))
+
+-- What the lines show is RC(l), for each resource in use.
+pub ceiling-of-slots : (n m : ℕ) (lines : List (List ℕ)) (l : ℕ) → l < m → ceilingIn lines n l ≡ outerCeiling (interfacesIn n m lines) l
+unfolding ceilingIn outerCeiling accessesIn accesses
+ceiling-of-slots n m lines l h =
+    ap (numberOr (n - 1))
+    (firstSuch-ext (accessesIn lines l) (accesses (interfacesIn n m lines) l) n 0
+    (λ s a b. ap (ltb 0) (sym (holding-of-slot n m lines s l (omega arith) h)))) ∙
+    ap (λ (k : ℕ). numberOr (k - 1) (firstSuch (accesses (interfacesIn n m lines) l) k 0)) (sym (count-of n m lines))
 
 -- The ceiling of a resource that subsystem s accesses is at or before s.
 pub ceiling-at-most : (g : InterfacesM) (l s : ℕ) → s < count g → 0 < holdingOf g s l → outerCeiling g l ≤ s

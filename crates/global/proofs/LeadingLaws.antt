@@ -3,7 +3,7 @@ use Prim.Native.Nat.{ℕ, _+_, _-_, _≤_, _<_}
 use native.Mathlib.Nat.{sub-zero}
 use native.Mathlib.Omega.{arith}
 use native.Mathlib.Decide.{ℕ-discrete}
-use mathlib.Core.Path.{_≡_, refl, sym, ap, _∙_}
+use mathlib.Core.Path.{_≡_, refl, sym, ap, ap₂, _∙_}
 use mathlib.Core.Bool.{Bool, true, false, cond}
 use mathlib.Core.Option.{Option, none, some}
 use mathlib.Core.Logic.{_⊎_, inl, inr, ⊎-elim}
@@ -29,6 +29,11 @@ module _ (h c : ℕ → ℕ) (m l : ℕ) where
   by-search {o} e =
       ap (λ (n : ℕ). unbeaten (h l) (firstSuch (beatenBy h c l) n 0)) (sym (sub-zero m)) ∙ ap (unbeaten (h l)) e
 
+  -- What the test says from holding times that are computed.
+  pub beaten-is : (j : ℕ) {x y : ℕ} {b : Bool} → x ≡ h j → y ≡ h l → b ≡ beats (c j) x j (c l) y l → b ≡ beatenBy h c l j
+  unfolding beatenBy
+  beaten-is j ex ey eb = eb ∙ ap₂ (λ (x y : ℕ). beats (c j) x j (c l) y l) ex ey
+
   -- One that beats: l does not lead.
   pub led-here : (j : ℕ) → j < m → true ≡ beatenBy h c l j → leftBeaten h c m l j ≡ leftBeaten h c m l 0 → 0 ≡ led h c m l
   led-here j u b e = sym (by-search (sym e ∙ firstSuch-here (beatenBy h c l) m j u (sym b)))
@@ -49,6 +54,10 @@ module _ (h c : ℕ → ℕ) (m l : ℕ) where
       go : (o : Option ℕ) → (unbeaten (h l) o ≡ h l) ⊎ (unbeaten (h l) o ≡ 0)
       go none = inl refl
       go (some j) = inr refl
+
+  -- Where nothing is held there is nothing to lead.
+  pub led-none : h l ≡ 0 → 0 ≡ led h c m l
+  led-none e = ⊎-elim (λ (q : led h c m l ≡ h l). sym (q ∙ e)) (λ (q : led h c m l ≡ 0). sym q) leads-or-not
 
   -- Where nothing beats it, it leads.
   leads : ((j : ℕ) → j < m → beatenBy h c l j ≡ false) → led h c m l ≡ h l

@@ -10,11 +10,10 @@ use Rattle.lists.specs.Range.{upTo, padded}
 use Rattle.lists.proofs.First.{firstSuch-ext}
 use Rattle.lists.proofs.UpTo.{length-upTo, getD-upTo, upTo-ext, length-padded}
 use Rattle.table.specs.Limits.{most}
-use Rattle.global.specs.declared.Interfaces.{Interfaces}
 use Rattle.global.specs.declared.Row.{Row}
 use Rattle.global.specs.declared.ceilings.Common.{Common}
 use Rattle.global.specs.declared.responses.Own.{Own}
-use Rattle.global.specs.Interfaces.{InterfacesM, holdingAt, meaningOf}
+use Rattle.global.specs.Interfaces.{InterfacesM, periodAt, budgetAt, heldAt, interfacesIn}
 use Rattle.global.specs.Parts.{count, periods, costs, periodOf, budgetOf, costOf}
 use Rattle.global.specs.Blocking.{outerCeiling, blocking}
 use Rattle.global.specs.View.{View, viewOf, resources, held, ceiling}
@@ -24,7 +23,7 @@ use Rattle.global.specs.Common.{commonOf}
 use Rattle.global.specs.Computed.{seenBy}
 use Rattle.global.specs.Leading.{beats, beatenBy, unbeaten, led, ceilingAt}
 use Rattle.global.specs.Sound.{Sound, Sound-view}
-use Rattle.global.proofs.Slots.{slot, count-of, resources-of, period-of-slot, budget-of-slot, holding-of-slot}
+use Rattle.global.proofs.Slots.{count-of, resources-of, period-of-slot, budget-of-slot, holding-of-slot}
 use Rattle.global.proofs.CommonLaws.{take-padded}
 use Rattle.global.proofs.ViewLaws.{view-sound, resources-seen, held-seen, ceiling-seen}
 use Rattle.global.proofs.LedLaws.{ledView, led-sound, row-led}
@@ -42,17 +41,17 @@ pub used-length : (n : ℕ) (a : List ℕ) → n ≤ length a → n ≡ length (
 used-length n a h = sym (length-take-le n a h)
 
 -- The parts of what the rows share.
-module _ (g : Interfaces) (c : Common) (e : c ≡ commonOf (meaningOf g)) where
-  pub shared-periods : c .periods ≡ padded (periodOf (meaningOf g)) 0 most (g .count)
+module _ (n m : ℕ) (lines : List (List ℕ)) (c : Common) (e : c ≡ commonOf (interfacesIn n m lines)) where
+  pub shared-periods : c .periods ≡ padded (periodOf (interfacesIn n m lines)) 0 most n
   unfolding commonOf
-  shared-periods = ap (λ (x : Common). x .periods) e ∙ ap (padded (periodOf (meaningOf g)) 0 most) (count-of g)
+  shared-periods = ap (λ (x : Common). x .periods) e ∙ ap (padded (periodOf (interfacesIn n m lines)) 0 most) (count-of n m lines)
 
-  pub shared-costs : c .costs ≡ padded (costOf (meaningOf g)) 0 most (g .count)
+  pub shared-costs : c .costs ≡ padded (costOf (interfacesIn n m lines)) 0 most n
   unfolding commonOf
-  shared-costs = ap (λ (x : Common). x .costs) e ∙ ap (padded (costOf (meaningOf g)) 0 most) (count-of g)
+  shared-costs = ap (λ (x : Common). x .costs) e ∙ ap (padded (costOf (interfacesIn n m lines)) 0 most) (count-of n m lines)
 
-  pub shared-ceilings : c .ceilings ≡ padded (outerCeiling (meaningOf g)) 0 most (g .resources)
-  unfolding commonOf meaningOf
+  pub shared-ceilings : c .ceilings ≡ padded (outerCeiling (interfacesIn n m lines)) 0 most m
+  unfolding commonOf interfacesIn
   shared-ceilings = ap (λ (x : Common). x .ceilings) e
 
 -- Which resources lead depends on the resources in use alone.
@@ -66,38 +65,38 @@ led-ext h h2 c c2 m l u eh ec =
     ap₂ (λ (p q : ℕ). beats p q j (c l) (h l) l) (ec j w) (eh j w) ∙
     ap₂ (λ (p q : ℕ). beats (c2 j) (h2 j) j p q l) (ec l u) (eh l u)))
 
-module _ (g : Interfaces) (s : ℕ) (h : s < g .count) where
-  -- What is held of the resources that lead, as the code computes it from the slot.
-  pub led-of-slot : (ceilings : List ℕ) → ceilings ≡ upTo (outerCeiling (meaningOf g)) (g .resources) → (l : ℕ) → l < g .resources → led (holdingAt (slot g s)) (ceilingAt ceilings) (length ceilings) l ≡ led (held (viewOf (meaningOf g) s)) (ceiling (viewOf (meaningOf g) s)) (resources (viewOf (meaningOf g) s)) l
-  unfolding holdingAt ceilingAt meaningOf
+module _ (n m : ℕ) (lines : List (List ℕ)) (s : ℕ) (h : s < n) where
+  -- What is held of the resources that lead, as the code computes it from the line.
+  pub led-of-slot : (ceilings : List ℕ) → ceilings ≡ upTo (outerCeiling (interfacesIn n m lines)) m → (l : ℕ) → l < m → led (heldAt lines s) (ceilingAt ceilings) (length ceilings) l ≡ led (held (viewOf (interfacesIn n m lines) s)) (ceiling (viewOf (interfacesIn n m lines) s)) (resources (viewOf (interfacesIn n m lines) s)) l
+  unfolding ceilingAt interfacesIn
   led-of-slot ceilings e l u =
-      ap (λ (m : ℕ). led (holdingAt (slot g s)) (ceilingAt ceilings) m l) (ap length e ∙ length-upTo _ _) ∙
-      led-ext (holdingAt (slot g s)) (held (viewOf (meaningOf g) s)) (ceilingAt ceilings) (ceiling (viewOf (meaningOf g) s)) (g .resources) l u
-      (λ j w. sym (held-seen (meaningOf g) s j w ∙ holding-of-slot g s j h w))
+      ap (λ (k : ℕ). led (heldAt lines s) (ceilingAt ceilings) k l) (ap length e ∙ length-upTo _ _) ∙
+      led-ext (heldAt lines s) (held (viewOf (interfacesIn n m lines) s)) (ceilingAt ceilings) (ceiling (viewOf (interfacesIn n m lines) s)) m l u
+      (λ j w. sym (held-seen (interfacesIn n m lines) s j w ∙ holding-of-slot n m lines s j h w))
       (λ j w.
-      ap (λ (cs : List ℕ). getD cs j 0) e ∙ getD-upTo (outerCeiling (meaningOf g)) (g .resources) j 0 w ∙
-      sym (ceiling-seen (meaningOf g) s j w)) ∙
-      ap (λ (m : ℕ). led (held (viewOf (meaningOf g) s)) (ceiling (viewOf (meaningOf g) s)) m l) (sym (resources-seen (meaningOf g) s))
+      ap (λ (cs : List ℕ). getD cs j 0) e ∙ getD-upTo (outerCeiling (interfacesIn n m lines)) m j 0 w ∙
+      sym (ceiling-seen (interfacesIn n m lines) s j w)) ∙
+      ap (λ (k : ℕ). led (held (viewOf (interfacesIn n m lines) s)) (ceiling (viewOf (interfacesIn n m lines) s)) k l) (sym (resources-seen (interfacesIn n m lines) s))
 
   -- The same for all resources, cut out of the array.
-  pub led-part : (ceilings : List ℕ) → ceilings ≡ upTo (outerCeiling (meaningOf g)) (g .resources) → {a : List ℕ} → a ≡ padded (led (holdingAt (slot g s)) (ceilingAt ceilings) (length ceilings)) 0 most (length ceilings) → take (g .resources) a ≡ ledView (viewOf (meaningOf g) s) .holdings
+  pub led-part : (ceilings : List ℕ) → ceilings ≡ upTo (outerCeiling (interfacesIn n m lines)) m → {a : List ℕ} → a ≡ padded (led (heldAt lines s) (ceilingAt ceilings) (length ceilings)) 0 most (length ceilings) → take m a ≡ ledView (viewOf (interfacesIn n m lines) s) .holdings
   led-part ceilings e {a} q =
-      let m : length ceilings ≡ g .resources = ap length e ∙ length-upTo _ _ in
-      let r : resources (viewOf (meaningOf g) s) ≡ g .resources = resources-seen (meaningOf g) s ∙ resources-of g in
-      ap₂ take (sym m) q ∙ take-padded (led (holdingAt (slot g s)) (ceilingAt ceilings) (length ceilings)) (length ceilings) ∙
-      ap (upTo (led (holdingAt (slot g s)) (ceilingAt ceilings) (length ceilings))) m ∙
-      upTo-ext (led (holdingAt (slot g s)) (ceilingAt ceilings) (length ceilings)) (led (held (viewOf (meaningOf g) s)) (ceiling (viewOf (meaningOf g) s)) (resources (viewOf (meaningOf g) s))) (g .resources) (led-of-slot ceilings e) ∙
-      ap (upTo (led (held (viewOf (meaningOf g) s)) (ceiling (viewOf (meaningOf g) s)) (resources (viewOf (meaningOf g) s)))) (sym r)
+      let size : length ceilings ≡ m = ap length e ∙ length-upTo _ _ in
+      let r : resources (viewOf (interfacesIn n m lines) s) ≡ m = resources-seen (interfacesIn n m lines) s ∙ resources-of n m lines in
+      ap₂ take (sym size) q ∙ take-padded (led (heldAt lines s) (ceilingAt ceilings) (length ceilings)) (length ceilings) ∙
+      ap (upTo (led (heldAt lines s) (ceilingAt ceilings) (length ceilings))) size ∙
+      upTo-ext (led (heldAt lines s) (ceilingAt ceilings) (length ceilings)) (led (held (viewOf (interfacesIn n m lines) s)) (ceiling (viewOf (interfacesIn n m lines) s)) (resources (viewOf (interfacesIn n m lines) s))) m (led-of-slot ceilings e) ∙
+      ap (upTo (led (held (viewOf (interfacesIn n m lines) s)) (ceiling (viewOf (interfacesIn n m lines) s)) (resources (viewOf (interfacesIn n m lines) s)))) (sym r)
 
   -- Its own numbers.
-  pub own-is : {b : ℕ} → b ≡ blocking (meaningOf g) s → _≡_ {A = Own} (record { place = s; period = slot g s .period; budget = slot g s .budget; blocking = b }) (record { place = s; period = periodOf (meaningOf g) s; budget = budgetOf (meaningOf g) s; blocking = blocking (meaningOf g) s })
-  own-is e =
+  pub own-is : {p q b : ℕ} → p ≡ periodAt lines s → q ≡ budgetAt lines s → b ≡ blocking (interfacesIn n m lines) s → _≡_ {A = Own} (record { place = s; period = p; budget = q; blocking = b }) (record { place = s; period = periodOf (interfacesIn n m lines) s; budget = budgetOf (interfacesIn n m lines) s; blocking = blocking (interfacesIn n m lines) s })
+  own-is ep eq eb =
       λ i.
       record {
         place = s;
-        period = sym (period-of-slot g s h) i;
-        budget = sym (budget-of-slot g s h) i;
-        blocking = e i;
+        period = (ep ∙ sym (period-of-slot n m lines s h)) i;
+        budget = (eq ∙ sym (budget-of-slot n m lines s h)) i;
+        blocking = eb i;
       }
 
 -- All of it together.

@@ -2,19 +2,18 @@
 use Prim.Native.Nat.{ℕ, _+_, _≤_, _<_}
 use native.Mathlib.Omega.{arith}
 use mathlib.Core.Path.{_≡_, sym, ap, _∙_}
-use mathlib.Core.Bool.{Bool, true, false, cond}
-use lib.Dec.{leb, ltb}
 use Rattle.lists.specs.Range.{largestTo}
-use Rattle.lists.proofs.Over.{largestTo-ext, largest-at-most, below-largest}
+use Rattle.lists.proofs.Over.{largestTo-ext, largest-at-most}
 use Rattle.lists.proofs.UpTo.{length-upTo, getD-upTo}
 use Rattle.least.specs.Search.{Loads}
 use Rattle.table.specs.Limits.{most, largest}
 use Rattle.global.specs.Interfaces.{InterfacesM}
 use Rattle.global.specs.Parts.{count, periodOf, budgetOf, holdingOf, holding, costOf, periods, costs}
-use Rattle.global.specs.Blocking.{outerCeiling, reaching, blockingBy, blocking}
+use Rattle.global.specs.Blocking.{outerCeiling, blockingBy, blocking}
 use Rattle.global.specs.View.{viewOf, resources, held, ceiling, overrun, cost}
 use Rattle.global.specs.Sound.{Sound, Sound-view}
 use Rattle.global.proofs.CeilingLaws.{ceiling-at-most}
+use Rattle.global.proofs.BlockingLaws.{blocking-by-at-most}
 
 module _ (g : InterfacesM) (s : ℕ) where
   pub resources-seen : resources (viewOf g s) ≡ g .resources
@@ -41,25 +40,12 @@ module _ (g : InterfacesM) (s : ℕ) where
   cost-seen = ap (λ (x : ℕ). budgetOf g s + x) overrun-seen
 
 module _ (g : InterfacesM) (sound : Sound g) where
-  -- Every X(t, l) is at most a period.
-  holding-small : (t l : ℕ) → t < count g → l < g .resources → holdingOf g t l ≤ largest
-  unfolding holding
-  holding-small t l h k =
-      omega (arith, sound .fits t h, sound .period-small t h, below-largest (holdingOf g t) (g .resources) l k)
-
-  -- And so is what blocks.
+  -- What blocks is at most a period.
   pub blocking-small : (s : ℕ) → blocking g s ≤ largest
-  unfolding blocking blockingBy reaching
+  unfolding blocking
   blocking-small s =
       largest-at-most (blockingBy g s) (count g) largest
-      (λ t h.
-      at-most (ltb s t) _
-      (largest-at-most (reaching g s t) (g .resources) largest
-      (λ l k. at-most (leb (outerCeiling g l) s) _ (holding-small t l h k))))
-    where
-      at-most : (b : Bool) (x : ℕ) → x ≤ largest → cond b x 0 ≤ largest
-      at-most true x h = h
-      at-most false x h = omega arith
+      (λ t h. omega (arith, blocking-by-at-most g s t, sound .fits t h, sound .period-small t h))
 
   cost-at-most : (t : ℕ) → t < count g → costOf g t ≤ periodOf g t
   unfolding costOf

@@ -1,7 +1,9 @@
 // How long a lower subsystem can hold up a higher one.
-use crate::Interface;
-use crate::Interfaces;
 use crate::ceilings::larger;
+use crate::interfaces::WIDTH;
+use crate::interfaces::budget;
+use crate::interfaces::held;
+use table::Table;
 ghost use mathlib.Core.Path.{_≡_};
 ghost use mathlib.Core.Bool.{cond};
 ghost use Prim.Native.Nat.{_<_, _≤_};
@@ -9,44 +11,60 @@ ghost use lib.Dec.{leb};
 ghost use lib.ListN.{length};
 ghost use Rattle.lists.specs.Range.{largestTo, upTo};
 ghost use Rattle.table.specs.Limits.{most};
-ghost use Rattle.global.specs.Interfaces.{meaningOf};
+ghost use Rattle.global.specs.Interfaces.{heldAt, interfacesIn};
+ghost use Rattle.global.specs.Parts.{costOf};
 ghost use Rattle.global.specs.Blocking.{outerCeiling, blocking};
 ghost use Rattle.global.specs.Blocked.{reachingIn};
 ghost use Rattle.global.specs.Sound.{Sound};
 
-// A holding time counts where its resource's ceiling reaches s.
-fn counted(ceiling: usize, s: usize, held: u32) -> u32
-    ensures { λ r. ⌜ r ≡ cond (leb ceiling s) held 0 ⌝ }
+// A holding time x counts where its resource's ceiling reaches s.
+fn counted(ceiling: usize, s: usize, x: u32) -> u32
+    ensures { λ r. ⌜ r ≡ cond (leb ceiling s) x 0 ⌝ }
 {
-    if ceiling <= s { held } else { 0 }
+    if ceiling <= s { x } else { 0 }
 }
 
-// The longest that the subsystem with interface i holds a resource whose ceiling reaches s.
-fn longest_reaching(i: Interface, ceilings: &[usize], s: usize) -> u32
-    requires { ⌜ length (now ceilings) ≤ most ⌝ }
-    ensures { λ r. ⌜ r ≡ largestTo (reachingIn i (now (ceilings .entry)) s) (length (now (ceilings .entry))) ⌝ }
+// The longest that subsystem t holds a resource whose ceiling reaches s.
+fn longest_reaching(
+    lines: &[[u32; WIDTH]; Table::MOST],
+    t: usize,
+    ceilings: &[usize],
+    s: usize,
+) -> u32
+    requires { ⌜ (t < most) × (length (now ceilings) ≤ most) ⌝ }
+    ensures { λ r. ⌜ r ≡ largestTo (reachingIn (heldAt (now (lines .entry)) t) (now (ceilings .entry)) s) (length (now (ceilings .entry))) ⌝ }
 {
     let mut best: u32 = 0;
     let mut l: usize = 0;
     while l < ceilings.len() {
-        best = larger(best, counted(ceilings[l], s, i.holding[l]));
+        best = larger(best, counted(ceilings[l], s, held(lines, t, l)));
         l += 1;
     }
     best
 }
 
-// B(s): the longest that a lower subsystem holds a resource whose ceiling reaches s.
-pub fn blocking_of(g: Interfaces, ceilings: &[usize], s: usize) -> u32
-    requires { ⌜ Sound (meaningOf g) ⌝ }
-    requires { ⌜ now ceilings ≡ upTo (outerCeiling (meaningOf g)) (g .resources) ⌝ }
-    requires { ⌜ s < g .count ⌝ }
-    ensures { λ r. ⌜ r ≡ blocking (meaningOf g) s ⌝ }
+// B(s): the longest that a lower subsystem holds a resource whose ceiling reaches s. A subsystem that costs its budget and no
+// more holds nothing, and is passed over. `m` stands for the contract's sake: the ceilings are as many.
+pub fn blocking_of(
+    lines: &[[u32; WIDTH]; Table::MOST],
+    n: usize,
+    m: usize,
+    costs: &[u32],
+    ceilings: &[usize],
+    s: usize,
+) -> u32
+    requires { ⌜ Sound (interfacesIn n m (now lines)) ⌝ }
+    requires { ⌜ now costs ≡ upTo (costOf (interfacesIn n m (now lines))) n ⌝ }
+    requires { ⌜ now ceilings ≡ upTo (outerCeiling (interfacesIn n m (now lines))) m ⌝ }
+    requires { ⌜ s < n ⌝ }
+    ensures { λ r. ⌜ r ≡ blocking (interfacesIn n m (now (lines .entry))) s ⌝ }
 {
     let mut best: u32 = 0;
     let mut t = s + 1;
-    while t < g.count {
-        let i = g.interfaces[t];
-        best = larger(best, longest_reaching(i, ceilings, s));
+    while t < n {
+        if costs[t] != budget(lines, t) {
+            best = larger(best, longest_reaching(lines, t, ceilings, s));
+        }
         t += 1;
     }
     best

@@ -1,14 +1,16 @@
 // Outer ceilings, and what the rows of all subsystems share: the loads that subsystems are to each other.
-use crate::Interface;
-use crate::Interfaces;
+use crate::interfaces::WIDTH;
+use crate::interfaces::budget;
+use crate::interfaces::held;
+use crate::interfaces::period;
 use table::Table;
 ghost use mathlib.Core.Path.{_≡_};
 ghost use Prim.Native.Nat.{_<_, _≤_, max};
 ghost use Rattle.lists.specs.Range.{largestTo, padded};
 ghost use Rattle.table.specs.Limits.{most};
-ghost use Rattle.global.specs.Interfaces.{holdingAt, meaningOf};
-ghost use Rattle.global.specs.Parts.{periodOf, costOf};
-ghost use Rattle.global.specs.Blocking.{outerCeiling};
+ghost use Rattle.global.specs.Interfaces.{periodAt, heldAt, interfacesIn};
+ghost use Rattle.global.specs.Parts.{costOf};
+ghost use Rattle.global.specs.Blocked.{ceilingIn};
 ghost use Rattle.global.specs.Common.{commonOf};
 ghost use Rattle.global.specs.Sound.{Sound};
 
@@ -28,89 +30,84 @@ pub(crate) fn larger(a: u32, b: u32) -> u32
 }
 
 // X(s): the largest holding time over the first m resources.
-pub(crate) fn largest_holding(i: Interface, m: usize) -> u32
-    requires { ⌜ m ≤ most ⌝ }
-    ensures { λ r. ⌜ r ≡ largestTo (holdingAt i) m ⌝ }
+pub(crate) fn largest_holding(lines: &[[u32; WIDTH]; Table::MOST], s: usize, m: usize) -> u32
+    requires { ⌜ (s < most) × (m ≤ most) ⌝ }
+    ensures { λ r. ⌜ r ≡ largestTo (heldAt (now (lines .entry)) s) m ⌝ }
 {
     let mut best: u32 = 0;
     let mut l: usize = 0;
     while l < m {
-        best = larger(best, i.holding[l]);
+        best = larger(best, held(lines, s, l));
         l += 1;
     }
     best
 }
 
-// RC(l): the lowest index of a subsystem with an access to resource l, or the last where there is none.
-pub(crate) fn outer_ceiling(g: Interfaces, l: usize) -> usize
-    requires { ⌜ Sound (meaningOf g) ⌝ }
-    requires { ⌜ l < g .resources ⌝ }
-    ensures { λ r. ⌜ r ≡ outerCeiling (meaningOf g) l ⌝ }
+// RC(l): the lowest index of n subsystems with an access to resource l, or the last where there is none.
+pub(crate) fn outer_ceiling(lines: &[[u32; WIDTH]; Table::MOST], n: usize, l: usize) -> usize
+    requires { ⌜ (1 ≤ n) × (n ≤ most) × (l < most) ⌝ }
+    ensures { λ r. ⌜ r ≡ ceilingIn (now (lines .entry)) n l ⌝ }
 {
     let mut s: usize = 0;
-    while s < g.count {
-        let i = g.interfaces[s];
-        if 0 < i.holding[l] {
+    while s < n {
+        if 0 < held(lines, s, l) {
             return s;
         }
         s += 1;
     }
-    g.count - 1
+    n - 1
 }
 
-// The period of each subsystem.
-fn periods_of(g: Interfaces) -> [u32; Table::MOST]
-    requires { ⌜ Sound (meaningOf g) ⌝ }
-    ensures { λ r. ⌜ r ≡ padded (periodOf (meaningOf g)) 0 most (g .count) ⌝ }
+// The period of each of n subsystems.
+fn periods_of(lines: &[[u32; WIDTH]; Table::MOST], n: usize) -> [u32; Table::MOST]
+    requires { ⌜ n ≤ most ⌝ }
+    ensures { λ r. ⌜ r ≡ padded (periodAt (now (lines .entry))) 0 most n ⌝ }
 {
     let mut periods = [0u32; Table::MOST];
     let mut s: usize = 0;
-    while s < g.count {
-        let i = g.interfaces[s];
-        periods[s] = i.period;
+    while s < n {
+        periods[s] = period(lines, s);
         s += 1;
     }
     periods
 }
 
 // Budget and largest holding time of each subsystem, together.
-fn costs_of(g: Interfaces) -> [u32; Table::MOST]
-    requires { ⌜ Sound (meaningOf g) ⌝ }
-    ensures { λ r. ⌜ r ≡ padded (costOf (meaningOf g)) 0 most (g .count) ⌝ }
+fn costs_of(lines: &[[u32; WIDTH]; Table::MOST], n: usize, m: usize) -> [u32; Table::MOST]
+    requires { ⌜ Sound (interfacesIn n m (now lines)) ⌝ }
+    ensures { λ r. ⌜ r ≡ padded (costOf (interfacesIn n m (now (lines .entry)))) 0 most n ⌝ }
 {
-    let m = g.resources;
     let mut costs = [0u32; Table::MOST];
     let mut s: usize = 0;
-    while s < g.count {
-        let i = g.interfaces[s];
-        costs[s] = i.budget + largest_holding(i, m);
+    while s < n {
+        costs[s] = budget(lines, s) + largest_holding(lines, s, m);
         s += 1;
     }
     costs
 }
 
-// The outer ceiling of each resource.
-fn ceilings_of(g: Interfaces) -> [usize; Table::MOST]
-    requires { ⌜ Sound (meaningOf g) ⌝ }
-    ensures { λ r. ⌜ r ≡ padded (outerCeiling (meaningOf g)) 0 most (g .resources) ⌝ }
+// The outer ceiling of each of m resources.
+fn ceilings_of(lines: &[[u32; WIDTH]; Table::MOST], n: usize, m: usize) -> [usize; Table::MOST]
+    requires { ⌜ (1 ≤ n) × (n ≤ most) × (m ≤ most) ⌝ }
+    ensures { λ r. ⌜ r ≡ padded (ceilingIn (now (lines .entry)) n) 0 most m ⌝ }
 {
     let mut ceilings = [0usize; Table::MOST];
     let mut l: usize = 0;
-    while l < g.resources {
-        ceilings[l] = outer_ceiling(g, l);
+    while l < m {
+        ceilings[l] = outer_ceiling(lines, n, l);
         l += 1;
     }
     ceilings
 }
 
 // What the rows of these interfaces share.
-pub fn in_common(g: Interfaces) -> Common
-    requires { ⌜ Sound (meaningOf g) ⌝ }
-    ensures { λ r. ⌜ r ≡ commonOf (meaningOf g) ⌝ }
+pub fn in_common(lines: &[[u32; WIDTH]; Table::MOST], n: usize, m: usize) -> Common
+    requires { ⌜ Sound (interfacesIn n m (now lines)) ⌝ }
+    ensures { λ r. ⌜ r ≡ commonOf (interfacesIn n m (now (lines .entry))) ⌝ }
 {
     Common {
-        periods: periods_of(g),
-        costs: costs_of(g),
-        ceilings: ceilings_of(g),
+        periods: periods_of(lines, n),
+        costs: costs_of(lines, n, m),
+        ceilings: ceilings_of(lines, n, m),
     }
 }

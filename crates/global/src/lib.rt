@@ -1,8 +1,11 @@
 // Steps 6 to 11 over interfaces alone: outer ceilings, blocking, active period, jobs, budget ends, job ends, responses and
-// rows. Crate `ends` asks about single jobs. An interface is all that the other subsystems see of one: its period, its budget and how long it may hold each
-// resource. Every function here is proved, and the crate assumes nothing. Indices count from 0; document 01 counts from 1.
+// rows. Crate `ends` asks about single jobs. An interface is all that the other subsystems see of one: its period, its budget
+// and how long it may hold each resource. N interfaces over M resources go by reference, as lines of numbers (module
+// `interfaces`), with N and M beside them; a lower line is a higher priority. Every function here is proved, and the crate
+// assumes nothing. Indices count from 0; document 01 counts from 1.
 mod blocking;
 mod ceilings;
+pub mod interfaces;
 mod leading;
 mod responses;
 mod rows;
@@ -11,21 +14,6 @@ pub use blocking::blocking_of;
 pub use ceilings::Common;
 pub use ceilings::in_common;
 pub use rows::row_of;
-use table::Table;
-
-// The interface of a subsystem: period P, budget Q, and for each resource its holding time X(s, l), 0 meaning no access.
-pub struct Interface {
-    pub period: u32,
-    pub budget: u32,
-    pub holding: [u32; Table::MOST],
-}
-
-// Interfaces of N subsystems over M resources. Slots past the counts may hold anything. A lower index is a higher priority.
-pub struct Interfaces {
-    pub count: usize,
-    pub resources: usize,
-    pub interfaces: [Interface; Table::MOST],
-}
 
 // How a row ends: with its response R within the period, or beyond it, or with none.
 pub enum Outcome {

@@ -1,9 +1,11 @@
 // The row of a subsystem.
-use crate::Interfaces;
 use crate::Outcome;
 use crate::Row;
 use crate::blocking::blocking_of;
 use crate::ceilings::Common;
+use crate::interfaces::WIDTH;
+use crate::interfaces::budget;
+use crate::interfaces::period;
 use crate::leading::leading;
 use crate::responses::Own;
 use crate::responses::largest_response;
@@ -15,7 +17,7 @@ use table::Table;
 ghost use mathlib.Core.Path.{_≡_};
 ghost use mathlib.Core.Option.{some};
 ghost use Prim.Native.Nat.{_<_};
-ghost use Rattle.global.specs.Interfaces.{meaningOf};
+ghost use Rattle.global.specs.Interfaces.{interfacesIn};
 ghost use Rattle.global.specs.Ends.{activePeriod};
 ghost use Rattle.global.specs.Row.{judged, rowFor, rowOf};
 ghost use Rattle.global.specs.Common.{commonOf};
@@ -99,24 +101,28 @@ fn row_seen(
 }
 
 // The row of subsystem s, with the number of its first failing task, 0 for none. `common` is what all rows share.
-pub fn row_of(g: Interfaces, common: Common, s: usize, failing: u32) -> Row
-    requires { ⌜ Sound (meaningOf g) ⌝ }
-    requires { ⌜ common ≡ commonOf (meaningOf g) ⌝ }
-    requires { ⌜ s < g .count ⌝ }
-    ensures { λ r. ⌜ r ≡ rowOf (meaningOf g) s failing ⌝ }
+pub fn row_of(
+    lines: &[[u32; WIDTH]; Table::MOST],
+    n: usize,
+    m: usize,
+    common: Common,
+    s: usize,
+    failing: u32,
+) -> Row
+    requires { ⌜ Sound (interfacesIn n m (now lines)) ⌝ }
+    requires { ⌜ common ≡ commonOf (interfacesIn n m (now lines)) ⌝ }
+    requires { ⌜ s < n ⌝ }
+    ensures { λ r. ⌜ r ≡ rowOf (interfacesIn n m (now (lines .entry))) s failing ⌝ }
 {
-    let n = g.count;
-    let m = g.resources;
-    let i = g.interfaces[s];
     let periods = common.periods;
     let costs = common.costs;
     let ceilings = common.ceilings;
-    let held = leading(i, &ceilings[..m]);
+    let held = leading(lines, s, &ceilings[..m]);
     let own = Own {
         place: s,
-        period: i.period,
-        budget: i.budget,
-        blocking: blocking_of(g, &ceilings[..m], s),
+        period: period(lines, s),
+        budget: budget(lines, s),
+        blocking: blocking_of(lines, n, m, &costs[..n], &ceilings[..m], s),
     };
     row_seen(
         &periods[..n],

@@ -3,3 +3,4 @@ pub mod First
 pub mod Over
 pub mod UpTo
 pub mod Turn
+pub mod Filled

@@ -1,9 +1,9 @@
 -- Laws of task blocking: which accesses count, and what each turn of the search for the longest settles, read off the
--- column. Assumes nothing.
+-- block. Assumes nothing.
 use Prim.Native.Nat.{ℕ, zero, suc, _+_, _≤_, _<_, max}
 use mathlib.Core.Path.{_≡_, refl, sym, ap, ap₂, _∙_}
 use mathlib.Core.Bool.{Bool, true, false, cond, _&&_}
-use mathlib.Core.List.{List, []}
+use mathlib.Core.List.{List}
 use native.Mathlib.Omega.{arith}
 use borrow.Author.Tests.{lt-ltb, le-ltb, le-leb, lt-leb, ltb-false}
 use lib.Dec.{ltb, leb}
@@ -11,13 +11,11 @@ use lib.ListN.{getD}
 use Rattle.lists.specs.Range.{largestTo, padded}
 use Rattle.lists.proofs.Over.{largestTo-suc, largest-at-most}
 use Rattle.lists.proofs.UpTo.{getD-padded}
-use Rattle.table.specs.declared.Subsystem.{Subsystem}
 use Rattle.table.specs.Limits.{most}
-use Rattle.table.specs.Meaning.{SubsystemM, subsystemM}
+use Rattle.table.specs.Meaning.{SubsystemM}
 use Rattle.table.specs.Parts.{taskCount, taskOf, accessOf}
-use Rattle.table.specs.Columns.{Accesses}
-use Rattle.table.proofs.Parts.{count-of-tasks}
-use Rattle.table.proofs.ColumnLaws.{access-in-column}
+use Rattle.table.specs.Grid.{countIn, accessIn, subsystemIn}
+use Rattle.table.proofs.GridLaws.{count-of-block, access-of-block}
 use Rattle.rules.specs.Holding.{uses, innerCeiling}
 use Rattle.local.specs.Blocking.{canBlock, blockingAccess, resourceBlocking, taskBlocking}
 
@@ -58,25 +56,24 @@ no-blocking-under-ceiling u i l ceiling e h =
 pub no-blocking-up-to : (u : SubsystemM) (i l : ℕ) → 0 ≡ largestTo (blockingAccess u i l) (i + 1)
 no-blocking-up-to u i l = sym (nothing-above-zero (blockingAccess u i l) (i + 1) (λ j k. blocking-by-one-above u i l j (omega arith)))
 
-module _ (m : ℕ) (sub : Subsystem) (i l : ℕ) where
+module _ (m : ℕ) (block : List (List ℕ)) (i l : ℕ) where
   -- A turn of the search over the tasks below i.
   pub blocking-turn :
-      (accesses : List (List ℕ)) → Accesses sub accesses →
-      (j ceiling : ℕ) → i < j → j < sub .count → l < m → ceiling ≡ innerCeiling (subsystemM m sub) l → ceiling ≤ i → (longest x : ℕ) →
-      longest ≡ largestTo (blockingAccess (subsystemM m sub) i l) j → x ≡ getD (getD accesses j []) l 0 →
-      max longest x ≡ largestTo (blockingAccess (subsystemM m sub) i l) (j + 1)
-  blocking-turn accesses a j ceiling h k n c d longest x e f =
+      (j ceiling : ℕ) → i < j → j < countIn block → l < m → ceiling ≡ innerCeiling (subsystemIn m block) l → ceiling ≤ i → (longest x : ℕ) →
+      longest ≡ largestTo (blockingAccess (subsystemIn m block) i l) j → x ≡ accessIn block j l →
+      max longest x ≡ largestTo (blockingAccess (subsystemIn m block) i l) (j + 1)
+  blocking-turn j ceiling h k n c d longest x e f =
       rw (
-        largestTo-suc (blockingAccess (subsystemM m sub) i l) j,
-        blocking-by-one-below (subsystemM m sub) i l j h (omega arith),
-        access-in-column m sub j k accesses a l n,
+        largestTo-suc (blockingAccess (subsystemIn m block) i l) j,
+        blocking-by-one-below (subsystemIn m block) i l j h (omega arith),
+        access-of-block m block j k l n,
         e,
         f,
       )
 
-  pub resource-blocking-is : (j : ℕ) → j ≡ sub .count → largestTo (blockingAccess (subsystemM m sub) i l) j ≡ resourceBlocking (subsystemM m sub) i l
+  pub resource-blocking-is : (j : ℕ) → j ≡ countIn block → largestTo (blockingAccess (subsystemIn m block) i l) j ≡ resourceBlocking (subsystemIn m block) i l
   unfolding resourceBlocking
-  resource-blocking-is j e = rw (count-of-tasks m sub, e)
+  resource-blocking-is j e = rw (count-of-block m block, e)
 
 -- A turn of the search over the resources.
 pub task-blocking-turn :

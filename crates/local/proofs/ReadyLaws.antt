@@ -2,9 +2,10 @@
 use Prim.Native.Nat.{ℕ, _+_, _-_, _≤_}
 use mathlib.Core.Path.{_≡_, refl}
 use native.Mathlib.Omega.{arith}
-use Rattle.table.specs.declared.Subsystem.{Subsystem}
+use mathlib.Core.List.{List}
 use Rattle.table.specs.Limits.{most}
-use Rattle.table.specs.Meaning.{SubsystemM, subsystemM}
+use Rattle.table.specs.Meaning.{SubsystemM}
+use Rattle.table.specs.Grid.{periodIn, subsystemIn}
 use Rattle.rules.specs.Holding.{holding}
 use Rattle.rules.specs.Admitted.{SoundSubsystem}
 use Rattle.local.specs.Passing.{givingEnd}
@@ -20,18 +21,18 @@ unfolding givingEnd
 end-by-period m u = omega arith
 
 -- The period less the holding time is the giving end.
-pub end-is-giving-end : (m : ℕ) (sub : Subsystem) (held : ℕ) → held ≡ holding m (subsystemM m sub) → sub .period - held ≡ givingEnd m (subsystemM m sub)
-unfolding givingEnd subsystemM
-end-is-giving-end m sub held e = rw e refl
+pub end-is-giving-end : (m : ℕ) (block : List (List ℕ)) (held : ℕ) → held ≡ holding m (subsystemIn m block) → periodIn block - held ≡ givingEnd m (subsystemIn m block)
+unfolding givingEnd subsystemIn
+end-is-giving-end m block held e = rw e refl
 
 pub ready-when-sound :
-    (m : ℕ) (sub : Subsystem) (end : ℕ) → SoundSubsystem m (subsystemM m sub) → m ≤ most → end ≡ givingEnd m (subsystemM m sub) →
-    Ready sub m end
-unfolding subsystemM
-ready-when-sound m sub end sound few e =
+    (m : ℕ) (block : List (List ℕ)) (end : ℕ) → SoundSubsystem m (subsystemIn m block) → m ≤ most → end ≡ givingEnd m (subsystemIn m block) →
+    Ready block m end
+unfolding subsystemIn
+ready-when-sound m block end sound few e =
     record {
       sound = sound;
       resources-most = few;
-      budget-by-end = omega (arith, budget-by-end m (subsystemM m sub) sound);
-      end-by-period = omega (arith, end-by-period m (subsystemM m sub));
+      budget-by-end = omega (arith, budget-by-end m (subsystemIn m block) sound);
+      end-by-period = omega (arith, end-by-period m (subsystemIn m block));
     }

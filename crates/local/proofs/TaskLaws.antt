@@ -1,102 +1,109 @@
--- A task of a sound subsystem: what the columns hold is within its limits, the tasks above it are loads, and what is computed
--- from the columns is whether it passes. Assumes nothing.
-use Prim.Native.Nat.{ℕ, _+_, _-_, _*_, _≤_, _<_, _^_}
+-- A task of a sound subsystem: its numbers are within their limits, the tasks above it are loads, and what is computed from
+-- its block and from what was taken out is whether it passes. Assumes nothing.
+use Prim.Native.Nat.{ℕ, _+_, _*_, _≤_, _<_}
 use mathlib.Core.Path.{_≡_, refl, sym, ap, ap₂, _∙_}
 use mathlib.Core.List.{List}
-use native.Mathlib.Nat.{le-trans}
 use native.Mathlib.Omega.{arith}
 use lib.ListN.{getD, length}
-use Rattle.lists.specs.Range.{sumTo}
+use Rattle.lists.specs.Range.{sumTo, padded}
 use Rattle.lists.proofs.Over.{sumTo-ext}
-use Rattle.lists.proofs.UpTo.{length-padded}
-use Rattle.least.specs.Up.{up}
+use Rattle.lists.proofs.UpTo.{length-padded, getD-padded}
 use Rattle.least.specs.Demand.{loadIn, demand, total}
 use Rattle.least.specs.Search.{Loads}
-use Rattle.table.specs.declared.Subsystem.{Subsystem}
 use Rattle.table.specs.Limits.{most, largest}
-use Rattle.table.specs.Meaning.{subsystemM}
 use Rattle.table.specs.Parts.{taskOf, workOf}
-use Rattle.table.specs.Columns.{Columns, separationAt, workAt}
-use Rattle.table.proofs.Parts.{count-of-tasks}
-use Rattle.table.proofs.ColumnLaws.{separation-in-column, work-in-column, deadline-in-column}
+use Rattle.table.specs.Grid.{periodIn, budgetIn, countIn, separationIn, workIn, deadlineIn, subsystemIn}
+use Rattle.table.proofs.GridLaws.{count-of-block, separation-of-block, work-of-block, deadline-of-block}
 use Rattle.rules.specs.Admitted.{SoundTask, SoundSubsystem}
 use Rattle.local.specs.Blocking.{taskBlocking}
 use Rattle.local.specs.Passing.{separationOf, deadlineOf, askedBy, need, heldWithin, taskPasses}
+use Rattle.local.specs.Ready.{TakenOut}
 use Rattle.local.proofs.PassingLaws.{held-ext}
 
-module _ (m : ℕ) (sub : Subsystem) (sound : SoundSubsystem m (subsystemM m sub)) where
-  pub some-task : 1 ≤ sub .count
-  some-task = omega (arith, sound .tasks-least, count-of-tasks m sub)
+module _ (m : ℕ) (block : List (List ℕ)) where
+  separation-here : (j : ℕ) → j < countIn block → separationOf (subsystemIn m block) j ≡ separationIn block j
+  unfolding separationOf
+  separation-here j h = separation-of-block m block j h
 
-  pub tasks-within : sub .count ≤ most
-  tasks-within = omega (arith, sound .tasks-most, count-of-tasks m sub)
+  deadline-here : (j : ℕ) → j < countIn block → deadlineOf (subsystemIn m block) j ≡ deadlineIn block j
+  unfolding deadlineOf
+  deadline-here j h = deadline-of-block m block j h
 
-  pub some-budget : 1 ≤ sub .budget
-  unfolding subsystemM
-  some-budget = sound .budget-least
+  module _ (sound : SoundSubsystem m (subsystemIn m block)) where
+    pub some-task : 1 ≤ countIn block
+    some-task = omega (arith, sound .tasks-least, count-of-block m block)
 
-  module _ (separations works deadlines : List ℕ) (accesses : List (List ℕ)) (c : Columns sub separations works deadlines accesses) where
-    separation-here : (j : ℕ) → j < sub .count → separationOf (subsystemM m sub) j ≡ getD separations j 0
-    unfolding separationOf
-    separation-here j h = separation-in-column m sub j h separations (c .separations-are)
+    pub tasks-within : countIn block ≤ most
+    tasks-within = omega (arith, sound .tasks-most, count-of-block m block)
 
-    work-here : (j : ℕ) → j < sub .count → workOf (subsystemM m sub) j ≡ getD works j 0
-    work-here j h = work-in-column m sub j h works (c .works-are)
+    pub some-budget : 1 ≤ budgetIn block
+    unfolding subsystemIn
+    some-budget = sound .budget-least
 
-    deadline-here : (j : ℕ) → j < sub .count → deadlineOf (subsystemM m sub) j ≡ getD deadlines j 0
-    unfolding deadlineOf
-    deadline-here j h = deadline-in-column m sub j h deadlines (c .deadlines-are)
-
-    -- The limits of what the columns hold.
+    -- The limits of a task's numbers.
     pub record Within (j : ℕ) : Type 0 where
-      pub separation-least : 1 ≤ getD separations j 0
-      pub work-least : 1 ≤ getD works j 0
-      pub work-most : getD works j 0 ≤ largest
-      pub deadline-most : getD deadlines j 0 ≤ largest
+      pub separation-least : 1 ≤ separationIn block j
+      pub work-least : 1 ≤ workIn block j
+      pub work-most : workIn block j ≤ largest
+      pub deadline-most : deadlineIn block j ≤ largest
 
-    pub task-within : (j : ℕ) → j < sub .count → Within j
+    pub task-within : (j : ℕ) → j < countIn block → Within j
     unfolding separationOf workOf deadlineOf
     task-within j h =
-        let ok : SoundTask m (taskOf (subsystemM m sub) j) = sound .task j (omega (arith, count-of-tasks m sub)) in
+        let ok : SoundTask m (taskOf (subsystemIn m block) j) = sound .task j (omega (arith, count-of-block m block)) in
+        let t : separationOf (subsystemIn m block) j ≡ separationIn block j = separation-here j h in
+        let w : workOf (subsystemIn m block) j ≡ workIn block j = work-of-block m block j h in
+        let d : deadlineOf (subsystemIn m block) j ≡ deadlineIn block j = deadline-here j h in
         record {
-          separation-least = omega (arith, separation-here j h);
-          work-least = omega (arith, work-here j h);
-          work-most = omega (arith, work-here j h);
-          deadline-most = omega (arith, deadline-here j h);
+          separation-least = omega (arith, ok .work-least, ok .work-by-deadline, ok .deadline-by-separation, t);
+          work-least = omega (arith, ok .work-least, w);
+          work-most = omega (arith, ok .work-by-deadline, ok .deadline-by-separation, ok .separation-most, w);
+          deadline-most = omega (arith, ok .deadline-by-separation, ok .separation-most, d);
         }
 
-    -- The tasks above task i are loads.
-    pub tasks-are-loads : (i : ℕ) → i ≤ sub .count → Loads separations works i
-    tasks-are-loads i h =
-        record {
-          few = omega (arith, tasks-within);
-          with-period = omega (arith, ap length (c .separations-are), length-padded (separationAt sub) 0 most (sub .count) tasks-within, tasks-within);
-          with-cost = omega (arith, ap length (c .works-are), length-padded (workAt sub) 0 most (sub .count) tasks-within, tasks-within);
-          period-pos = λ j l. task-within j (omega arith) .separation-least;
-          cost-small = λ j l. omega (arith, task-within j (omega arith) .work-most);
-        }
+    module _ (i : ℕ) (below : i < countIn block) (ceilings separations works : List ℕ) (out : TakenOut block m ceilings separations works i) where
+      separation-taken : (j : ℕ) → j < i → getD separations j 0 ≡ separationIn block j
+      separation-taken j h = rw (out .separations-are) (getD-padded (separationIn block) 0 0 most i j h)
 
-    -- What they ask for is what step 5 adds up.
-    asked-is-load : (x j : ℕ) → j < sub .count → askedBy (subsystemM m sub) x j ≡ loadIn separations works x j
-    unfolding askedBy loadIn
-    asked-is-load x j h = rw (separation-here j h, work-here j h) refl
+      work-taken : (j : ℕ) → j < i → getD works j 0 ≡ workIn block j
+      work-taken j h = rw (out .works-are) (getD-padded (workIn block) 0 0 most i j h)
 
-    need-is-total :
-        (i : ℕ) → i < sub .count → (constant : ℕ) → constant ≡ taskBlocking m (subsystemM m sub) i + getD works i 0 → (x : ℕ) →
-        total separations works i constant x ≡ need m (subsystemM m sub) i x
-    unfolding need total demand
-    need-is-total i h constant e x =
-        omega (
-          arith,
-          work-here i h,
-          sumTo-ext (askedBy (subsystemM m sub) x) (loadIn separations works x) i (λ j l. asked-is-load x j (omega arith)),
-        )
+      -- The tasks above task i are loads.
+      pub tasks-are-loads : Loads separations works i
+      tasks-are-loads =
+          record {
+            few = omega (arith, tasks-within, below);
+            with-period = omega (arith, ap length (out .separations-are), length-padded (separationIn block) 0 most i (omega (arith, tasks-within, below)), tasks-within, below);
+            with-cost = omega (arith, ap length (out .works-are), length-padded (workIn block) 0 most i (omega (arith, tasks-within, below)), tasks-within, below);
+            period-pos = λ j l. omega (arith, separation-taken j l, task-within j (omega (arith, below)) .separation-least);
+            cost-small = λ j l. omega (arith, work-taken j l, task-within j (omega (arith, below)) .work-most);
+          }
 
-    pub passes-by-columns :
-        (end i : ℕ) → i < sub .count → (blocked work : ℕ) → blocked ≡ taskBlocking m (subsystemM m sub) i → work ≡ getD works i 0 →
-        heldWithin (total separations works i (blocked + work)) (sub .period) (sub .budget) end (getD deadlines i 0) ≡ taskPasses m (subsystemM m sub) end i
-    unfolding taskPasses subsystemM
-    passes-by-columns end i h blocked work b e =
-        held-ext (total separations works i (blocked + work)) (need m (subsystemM m sub) i) (sub .period) (sub .budget) end (getD deadlines i 0)
-        (need-is-total i h (blocked + work) (ap₂ _+_ b e))
-        ∙ ap (heldWithin (need m (subsystemM m sub) i) (sub .period) (sub .budget) end) (sym (deadline-here i h))
+      -- What they ask for is what step 5 adds up.
+      asked-is-load : (x j : ℕ) → j < i → askedBy (subsystemIn m block) x j ≡ loadIn separations works x j
+      unfolding askedBy loadIn
+      asked-is-load x j h =
+          rw (separation-here j (omega (arith, below)), work-of-block m block j (omega (arith, below)), separation-taken j h, work-taken j h) refl
+
+      need-is-total :
+          (constant : ℕ) → constant ≡ taskBlocking m (subsystemIn m block) i + workIn block i → (x : ℕ) →
+          total separations works i constant x ≡ need m (subsystemIn m block) i x
+      unfolding need total demand
+      need-is-total constant e x =
+          omega (
+            arith,
+            e,
+            work-of-block m block i below,
+            sumTo-ext (askedBy (subsystemIn m block) x) (loadIn separations works x) i (λ j l. asked-is-load x j l),
+          )
+
+      pub passes-by-block :
+          (end blocked work deadline : ℕ) → blocked ≡ taskBlocking m (subsystemIn m block) i → work ≡ workIn block i → deadline ≡ deadlineIn block i →
+          (period budget : ℕ) → period ≡ periodIn block → budget ≡ budgetIn block →
+          heldWithin (total separations works i (blocked + work)) period budget end deadline ≡ taskPasses m (subsystemIn m block) end i
+      unfolding taskPasses subsystemIn
+      passes-by-block end blocked work deadline b e d period budget p q =
+          rw (p, q, d)
+          (held-ext (total separations works i (blocked + work)) (need m (subsystemIn m block) i) (periodIn block) (budgetIn block) end (deadlineIn block i)
+          (need-is-total (blocked + work) (ap₂ _+_ b e))
+          ∙ ap (heldWithin (need m (subsystemIn m block) i) (periodIn block) (budgetIn block) end) (sym (deadline-here i below)))

@@ -4,9 +4,7 @@ use mathlib.Core.Path.{_≡_}
 use mathlib.Core.List.{List}
 use Rattle.lists.specs.Range.{padded}
 use Rattle.table.specs.Limits.{most}
-use Rattle.table.specs.declared.Subsystem.{Subsystem}
-use Rattle.table.specs.Meaning.{subsystemM}
-use Rattle.table.specs.Columns.{Columns}
+use Rattle.table.specs.Grid.{periodIn, budgetIn, countIn, separationIn, workIn, subsystemIn}
 use Rattle.rules.specs.Admitted.{SoundSubsystem}
 use Rattle.rules.specs.Holding.{innerCeiling}
 use Rattle.local.specs.declared.Share.{Share}
@@ -18,20 +16,22 @@ pub record Sharing (share : Share) : Type 0 where
   pub end-by-period : share .end ≤ share .period
 
 -- The m inner ceilings of a subsystem, for a task of it.
-pub record Ceilings (sub : Subsystem) (m : ℕ) (ceilings : List ℕ) (i : ℕ) : Type 0 where
-  pub tasks-most : sub .count ≤ most
+pub record Ceilings (block : List (List ℕ)) (m : ℕ) (ceilings : List ℕ) (i : ℕ) : Type 0 where
+  pub some-task : 1 ≤ countIn block
+  pub tasks-most : countIn block ≤ most
   pub resources-most : m ≤ most
-  pub task : i < sub .count
-  pub are : ceilings ≡ padded (innerCeiling (subsystemM m sub)) 0 most m
+  pub task : i < countIn block
+  pub are : ceilings ≡ padded (innerCeiling (subsystemIn m block)) 0 most m
 
--- What is taken out of a subsystem once, for all its tasks.
-pub record TakenOut (sub : Subsystem) (m : ℕ) (ceilings separations works deadlines : List ℕ) (accesses : List (List ℕ)) : Type 0 where
-  pub ceilings-are : ceilings ≡ padded (innerCeiling (subsystemM m sub)) 0 most m
-  pub columns : Columns sub separations works deadlines accesses
+-- What is taken out of a subsystem for task i: the ceilings, and the separations and works of the tasks above it.
+pub record TakenOut (block : List (List ℕ)) (m : ℕ) (ceilings separations works : List ℕ) (i : ℕ) : Type 0 where
+  pub ceilings-are : ceilings ≡ padded (innerCeiling (subsystemIn m block)) 0 most m
+  pub separations-are : separations ≡ padded (separationIn block) 0 most i
+  pub works-are : works ≡ padded (workIn block) 0 most i
 
 -- A subsystem of an admitted table, with its giving end.
-pub record Ready (sub : Subsystem) (m end : ℕ) : Type 0 where
-  pub sound : SoundSubsystem m (subsystemM m sub)
+pub record Ready (block : List (List ℕ)) (m end : ℕ) : Type 0 where
+  pub sound : SoundSubsystem m (subsystemIn m block)
   pub resources-most : m ≤ most
-  pub budget-by-end : sub .budget ≤ end
-  pub end-by-period : end ≤ sub .period
+  pub budget-by-end : budgetIn block ≤ end
+  pub end-by-period : end ≤ periodIn block

@@ -2,12 +2,19 @@
 // table, which `Ready` says. Every function here is proved, and the crate assumes nothing of its own.
 ghost use mathlib.Core.Path.{_≡_};
 ghost use Prim.Native.Nat.{_<_};
-ghost use Rattle.table.specs.Meaning.{subsystemM};
-ghost use Rattle.table.specs.Columns.{Columns};
+ghost use Rattle.table.specs.Grid.{countIn, subsystemIn};
 ghost use Rattle.local.specs.Passing.{taskPasses, firstFailing};
 ghost use Rattle.local.specs.Ready.{Ready, TakenOut};
-use table::Subsystem;
+use numbers::wide;
 use table::Table;
+use table::grid::BLOCK;
+use table::grid::LINE;
+use table::grid::budget;
+use table::grid::count;
+use table::grid::deadline;
+use table::grid::period;
+use table::grid::separation;
+use table::grid::work;
 
 pub mod blocking;
 pub mod passing;
@@ -19,64 +26,47 @@ pub struct Share {
     pub end: u32,
 }
 
-// Whether task i passes, from what was taken out of the subsystem.
+// Whether task i passes, from the ceilings and the numbers of the tasks above it.
 fn task_passes(
-    sub: Subsystem,
+    block: &[[u32; LINE]; BLOCK],
     m: usize,
     end: u32,
     i: usize,
     ceilings: &[usize; Table::MOST],
     separations: &[u32; Table::MOST],
     works: &[u32; Table::MOST],
-    deadlines: &[u32; Table::MOST],
-    accesses: &[[u32; Table::MOST]; Table::MOST],
 ) -> bool
-    requires { ⌜ Ready sub m end ⌝ }
-    requires { ⌜ (i < sub .count) × TakenOut sub m (now ceilings) (now separations) (now works) (now deadlines) (now accesses) ⌝ }
-    ensures { λ r. ⌜ r ≡ taskPasses m (subsystemM m sub) end i ⌝ }
+    requires { ⌜ Ready (now block) m end ⌝ }
+    requires { ⌜ (i < countIn (now block)) × TakenOut (now block) m (now ceilings) (now separations) (now works) i ⌝ }
+    ensures { λ r. ⌜ r ≡ taskPasses m (subsystemIn m (now (block .entry))) end i ⌝ }
 {
-    let blocked = blocking::task_blocking(sub, m, ceilings, i, accesses);
-    let constant = blocked + numbers::wide(works[i]);
-    let deadline = deadlines[i];
+    let blocked = blocking::task_blocking(block, m, ceilings, i);
+    let constant = blocked + wide(work(block, i));
     let share = Share {
-        period: sub.period,
-        budget: sub.budget,
+        period: period(block),
+        budget: budget(block),
         end: end,
     };
-    passing::held_within(separations, works, i, constant, deadline, share)
+    passing::held_within(separations, works, i, constant, deadline(block, i), share)
 }
 
 // The first failing task of a subsystem with m resources in use, whose budget is given among a period's first `end`
-// ticks: 1 for the first task, 0 where every task passes. The subsystem's tasks come as columns.
-pub fn first_failing_task(
-    sub: Subsystem,
-    m: usize,
-    end: u32,
-    separations: &[u32; Table::MOST],
-    works: &[u32; Table::MOST],
-    deadlines: &[u32; Table::MOST],
-    accesses: &[[u32; Table::MOST]; Table::MOST],
-) -> u8
-    requires { ⌜ Ready sub m end ⌝ }
-    requires { ⌜ Columns sub (now separations) (now works) (now deadlines) (now accesses) ⌝ }
-    ensures { λ r. ⌜ r ≡ firstFailing m (subsystemM m sub) end ⌝ }
+// ticks: 1 for the first task, 0 where every task passes. Each task that passes joins those that the next ones wait for.
+pub fn first_failing_task(block: &[[u32; LINE]; BLOCK], m: usize, end: u32) -> u8
+    requires { ⌜ Ready (now block) m end ⌝ }
+    ensures { λ r. ⌜ r ≡ firstFailing m (subsystemIn m (now (block .entry))) end ⌝ }
 {
-    let ceilings = blocking::inner_ceilings(sub, m, accesses);
+    let ceilings = blocking::inner_ceilings(block, m);
+    let n = count(block);
+    let mut separations = [0u32; Table::MOST];
+    let mut works = [0u32; Table::MOST];
     let mut i = 0;
-    while i < numbers::index(sub.count) {
-        if !task_passes(
-            sub,
-            m,
-            end,
-            i,
-            &ceilings,
-            separations,
-            works,
-            deadlines,
-            accesses,
-        ) {
+    while i < n {
+        if !task_passes(block, m, end, i, &ceilings, &separations, &works) {
             return (i + 1) as u8;
         }
+        separations[i] = separation(block, i);
+        works[i] = work(block, i);
         i += 1;
     }
     0

@@ -26,7 +26,8 @@ use Rattle.stored.specs.Numbers.{AreBytes}
 use Rattle.stored.specs.Held.{Held}
 use Rattle.stored.specs.File.{fileOf}
 use Rattle.stored.specs.Read.{Refusal, refusalIn, wholeUnless, readOf}
-use Rattle.stored.specs.Write.{countsJudged, answerFor, writeOf, leftBy, bufferAfter}
+use Rattle.rules.specs.Rules.{countsJudged}
+use Rattle.stored.specs.Write.{answerFor, writeOf, leftBy, bufferAfter}
 use Rattle.stored.proofs.RoundTrips.{refused-read-gives-zeros, read-then-written-is-the-same-file, written-then-read-means-the-same, same-meaning-same-file, same-reading-same-file}
 use Rattle.stored.proofs.LongInput.{first-bytes-suffice}
 

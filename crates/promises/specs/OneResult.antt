@@ -7,8 +7,6 @@ use mathlib.Core.Logic.{_⊎_, ⊎-elim}
 use mathlib.Core.List.{List}
 use Rattle.lists.proofs.Over.{le-or-lt}
 use Rattle.least.specs.Search.{IsLeast}
-use Rattle.global.specs.declared.Interface.{Interface}
-use Rattle.global.specs.Interfaces.{interfaceM}
 
 -- There is one least solution only: the contract of `least::least_within` determines its result.
 pub one-least-solution : (f : ℕ → ℕ) (y z : ℕ) → IsLeast f y → IsLeast f z → y ≡ z

@@ -1,117 +1,130 @@
--- Laws of the interfaces of an admitted table: what each turn fills in, and that they are sound. Assumes nothing.
-use Prim.Native.Nat.{ℕ, _+_, _-_, _≤_, _<_}
-use native.Mathlib.Nat.{le-trans, eq-or-lt-of-le, ne-of-lt}
+-- Laws of the interfaces of an admitted table: what each turn fills in. Assumes nothing.
+use Prim.Native.Nat.{ℕ, _+_, _≤_, _<_}
 use native.Mathlib.Omega.{arith}
-use mathlib.Core.Path.{_≡_, refl, sym, ap, ap₂, _∙_}
-use mathlib.Core.Logic.{_⊎_, ⊎-elim}
-use mathlib.Core.List.{List}
-use lib.ListN.{length, getD, set}
-use lib.Seq.{getD-set-same, getD-set-other}
-use Rattle.lists.specs.Range.{largestTo, upTo, padded}
-use Rattle.lists.proofs.Over.{below-largest, largestTo-ext}
-use Rattle.lists.proofs.UpTo.{padded-set, getD-padded, upTo-ext, getD-upTo, length-upTo}
+use mathlib.Core.Path.{_≡_, refl, sym, ap, _∙_}
+use mathlib.Core.List.{List, []}
+use lib.ListN.{length, getD, set, replicate, length-set}
+use Rattle.lists.specs.Range.{upTo, padded}
+use Rattle.lists.proofs.Over.{below-largest}
+use Rattle.lists.proofs.UpTo.{getD-padded}
+use Rattle.lists.proofs.Filled.{Filled, filled-none, filled-at, filled-more, kept-before}
 use Rattle.table.specs.Limits.{most, largest}
-use Rattle.table.specs.declared.Subsystem.{Subsystem}
-use Rattle.table.specs.declared.Table.{Table}
-use Rattle.table.specs.Meaning.{SubsystemM, System, subsystemM, meaning, pastSubsystems}
-use Rattle.table.specs.Parts.{taskCount, subsystemCount, subsystemOf}
-use Rattle.table.proofs.Parts.{count-of-tasks, count-of-subsystems, subsystem-of-slot}
+use Rattle.table.specs.Meaning.{SubsystemM, System}
+use Rattle.table.specs.Parts.{subsystemCount, subsystemOf}
+use Rattle.table.specs.Grid.{periodIn, budgetIn, subsystemIn, blockIn, systemIn}
+use Rattle.table.proofs.GridLaws.{count-of-grid, resources-of-grid, subsystem-of-grid}
 use Rattle.rules.specs.Admitted.{SoundSubsystem, SoundSystem}
 use Rattle.rules.specs.Holding.{resourceHolding, holding}
-use Rattle.rules.specs.Slots.{Slots, Counted}
-use Rattle.global.specs.declared.Interface.{Interface}
-use Rattle.global.specs.declared.Interfaces.{Interfaces}
-use Rattle.global.specs.Interfaces.{InterfaceM, InterfacesM, pastInterfaces, holdingAt, interfaceM, interfaceAt as global-interfaceAt, meaningOf}
+use Rattle.rules.specs.Held.{holdingsAt, HeldIn}
+use Rattle.rules.proofs.HoldingLaws.{held-of-block}
+use Rattle.global.specs.Interfaces.{InterfaceM, InterfacesM, periodAt, budgetAt, heldAt, interfaceAt as lineAt, interfacesIn}
+use Rattle.global.specs.Sound.{Sound}
+use Rattle.global.proofs.Slots.{interface-is, interfaces-are}
 use Rattle.report.specs.Interfaces.{interfaceFrom, interfaceAt, interfacesFrom}
-use Rattle.report.specs.Slots.{SoundSlot}
+use Rattle.report.specs.Slots.{SoundSlot, Shows}
+use Rattle.report.proofs.SoundLaws.{interfaces-sound}
 
-module _ (sub : Subsystem) (m : ℕ) (sound : SoundSlot sub m) where
-  -- What rule 1 gave.
-  pub tasks-most : sub .count ≤ most
-  tasks-most = rw (← count-of-tasks m sub) (sound .sound .tasks-most)
+-- A holding time is below the period, and so below a million.
+pub holding-small : (block : List (List ℕ)) (m : ℕ) → SoundSlot block m → (l : ℕ) → l < m → resourceHolding (subsystemIn m block) l ≤ largest
+unfolding holding
+holding-small block m sound l h =
+    omega (
+      arith,
+      below-largest (resourceHolding (subsystemIn m block)) m l h,
+      sound .sound .fits,
+      sound .sound .period-most,
+    )
 
-  pub slots : (l : ℕ) → l < m → Slots sub m l
-  slots l h =
-      record {
-        some-task = rw (← count-of-tasks m sub) (sound .sound .tasks-least);
-        tasks-most = tasks-most;
-        resources-most = sound .resources-most;
-        listed = h;
-      }
-
-  -- A holding time is below the period, and so below a million.
-  pub holding-small : (l : ℕ) → l < m → resourceHolding (subsystemM m sub) l ≤ largest
-  unfolding holding
-  holding-small l h =
-      omega (
-        arith,
-        below-largest (resourceHolding (subsystemM m sub)) m l h,
-        sound .sound .fits,
-        sound .sound .period-most,
-      )
-
--- The interface with all of them filled in is the subsystem's.
-pub interface-filled :
-    (sub : Subsystem) (m : ℕ) (hs : List ℕ) → hs ≡ padded (resourceHolding (subsystemM m sub)) 0 most m →
-    interfaceM m (record { period = sub .period; budget = sub .budget; holding = hs }) ≡ interfaceFrom m (subsystemM m sub)
-unfolding interfaceM interfaceFrom holdingAt subsystemM
-interface-filled sub m hs e =
-    ap (λ (l : List ℕ). record { period = sub .period; budget = sub .budget; holdings = l })
-    (upTo-ext _ _ m (λ l h. ap (λ (xs : List ℕ). getD xs l 0) e ∙ getD-padded (resourceHolding (subsystemM m sub)) 0 0 most m l h))
+-- X(s, l) as rule 5 has left it.
+pub held-here : (u : SubsystemM) (m l : ℕ) (held : List ℕ) → held ≡ padded (resourceHolding u) 0 most m → l < m → getD held l 0 ≡ resourceHolding u l
+held-here u m l held e h = rw e (getD-padded (resourceHolding u) 0 0 most m l h)
 
 ------------------------------------------------------------------------
--- All subsystems
+-- One line
 
--- The interfaces below s are those of the table's subsystems.
-unfoldable pub Filled : Table → ℕ → List Interface → ℕ → Type 0
-Filled t m is s = (r : ℕ) → r < s → interfaceM m (getD is r pastInterfaces) ≡ interfaceAt (meaning t) r
+abbrev HeldNumber : ℕ → List (List ℕ) → ℕ → ℕ → Type 0
+HeldNumber m block l x = x ≡ resourceHolding (subsystemIn m block) l
 
-pub none-filled : (t : Table) (m : ℕ) (is : List Interface) → Filled t m is 0
-unfolding Filled
-none-filled t m is r h = absurd (omega arith)
+-- A line with P, Q and the first l holding times.
+pub record LineTo (m : ℕ) (block : List (List ℕ)) (line : List ℕ) (l : ℕ) : Type 0 where
+  pub wide : length line ≡ 2 + most
+  pub period-is : getD line 0 0 ≡ periodIn block
+  pub budget-is : getD line 1 0 ≡ budgetIn block
+  pub held-are : Filled 0 (HeldNumber m block) 2 line l
 
-interface-of-slot :
-    (t : Table) (s m : ℕ) → s < t .count → m ≡ t .resources →
-    interfaceFrom m (subsystemM m (getD (t .subsystems) s pastSubsystems)) ≡ interfaceAt (meaning t) s
-unfolding interfaceAt meaning
-interface-of-slot t s m h q =
-    ap (λ (k : ℕ). interfaceFrom k (subsystemM k (getD (t .subsystems) s pastSubsystems))) q ∙
-    ap (interfaceFrom (t .resources)) (sym (subsystem-of-slot t s h))
+pub line-begins : (m : ℕ) (block : List (List ℕ)) (p q : ℕ) → p ≡ periodIn block → q ≡ budgetIn block → LineTo m block (set (set (replicate (2 + most) 0) 0 p) 1 q) 0
+line-begins m block p q e f = record { wide = refl; period-is = e; budget-is = f; held-are = filled-none 0 (HeldNumber m block) 2 _ }
 
-pub one-more-filled :
-    (t : Table) (m : ℕ) (is : List Interface) (s : ℕ) (x : Interface) → s < t .count → s < length is → m ≡ t .resources →
-    interfaceM m x ≡ interfaceFrom m (subsystemM m (getD (t .subsystems) s pastSubsystems)) → Filled t m is s →
-    Filled t m (set is s x) (s + 1)
-unfolding Filled
-one-more-filled t m is s x h l q e f r g =
-    ⊎-elim (λ (k : r ≡ s).
-    ap (λ (i : Interface). interfaceM m i) (ap (λ (j : ℕ). getD (set is s x) j pastInterfaces) k ∙ getD-set-same is s x pastInterfaces l) ∙
-    e ∙ interface-of-slot t s m h q ∙ ap (interfaceAt (meaning t)) (sym k))
-    (λ (k : r < s). ap (λ (i : Interface). interfaceM m i) (getD-set-other is s r x pastInterfaces (ne-of-lt k)) ∙ f r k)
-    (eq-or-lt-of-le {n = r} {m = s} (omega arith))
+pub line-more : (m : ℕ) (block : List (List ℕ)) (line : List ℕ) (l x : ℕ) → l < most → LineTo m block line l → x ≡ resourceHolding (subsystemIn m block) l → LineTo m block (set line (l + 2) x) (l + 1)
+line-more m block line l x h t e =
+    record {
+      wide = length-set line (l + 2) x ∙ t .wide;
+      period-is = kept-before 0 line (l + 2) 0 x (omega arith) ∙ t .period-is;
+      budget-is = kept-before 0 line (l + 2) 1 x (omega arith) ∙ t .budget-is;
+      held-are = filled-more 0 (HeldNumber m block) 2 line l (l + 2) x refl (omega (arith, t .wide)) (t .held-are) e;
+    }
 
-pub all-filled :
-    (t : Table) (n m : ℕ) (is : List Interface) → n ≡ t .count → m ≡ t .resources → Filled t m is n →
-    meaningOf (record { count = n; resources = m; interfaces = is }) ≡ interfacesFrom (meaning t)
-unfolding Filled meaningOf global-interfaceAt interfacesFrom meaning
-all-filled t n m is p q f =
-    let e : upTo (global-interfaceAt (record { count = n; resources = m; interfaces = is })) n ≡ upTo (interfaceAt (meaning t)) n
-    = upTo-ext (global-interfaceAt (record { count = n; resources = m; interfaces = is })) (interfaceAt (meaning t)) n f in
-    ap₂ (λ (k : ℕ) (l : List InterfaceM). record { resources = k; interfaces = l }) q
-    (e ∙ ap (upTo (interfaceAt (meaning t))) (p ∙ sym (count-of-subsystems t)))
+pub line-shows : (m : ℕ) (block : List (List ℕ)) (line : List ℕ) (l : ℕ) → l ≡ m → LineTo m block line l → Shows m block line
+line-shows m block line l e t =
+    record {
+      period-is = t .period-is;
+      budget-is = t .budget-is;
+      held-is = λ k h. filled-at 0 (HeldNumber m block) 2 line l k (k + 2) refl (t .held-are) (rw e h);
+    }
 
--- What the rules left of the whole holds of a slot.
-pub sound-slot :
-    (t : Table) (s m : ℕ) → SoundSystem (meaning t) → s < t .count → m ≡ t .resources →
-    SoundSlot (getD (t .subsystems) s pastSubsystems) m
-unfolding meaning
-sound-slot t s m sound h q =
-    rw q
-    (record {
-      sound = rw (← subsystem-of-slot t s h) (sound .subsystem s (rw (count-of-subsystems t) h));
-      resources-most = sound .resources-most;
-    })
+------------------------------------------------------------------------
+-- All lines
 
-pub few-subsystems : (t : Table) → SoundSystem (meaning t) → (t .count ≤ most) × (t .resources ≤ most)
-unfolding meaning
-few-subsystems t sound = (rw (← count-of-subsystems t) (sound .subsystems-most), sound .resources-most)
+module _ (n m : ℕ) (grid : List (List (List ℕ))) where
+  abbrev LineOfBlock : ℕ → List ℕ → Type 0
+  LineOfBlock s line = Shows m (blockIn grid s) line
+
+  -- Lines of which the first s are the interfaces of the grid's subsystems.
+  pub record LinesTo (lines : List (List ℕ)) (s : ℕ) : Type 0 where
+    pub long : length lines ≡ most
+    pub lines-are : Filled [] LineOfBlock 0 lines s
+
+  pub lines-begin : (lines : List (List ℕ)) → length lines ≡ most → LinesTo lines 0
+  lines-begin lines e = record { long = e; lines-are = filled-none [] LineOfBlock 0 lines }
+
+  pub lines-more : (lines : List (List ℕ)) (s : ℕ) (line : List ℕ) → s < most → LinesTo lines s → Shows m (blockIn grid s) line → LinesTo (set lines s line) (s + 1)
+  lines-more lines s line h t e =
+      record {
+        long = length-set lines s line ∙ t .long;
+        lines-are = filled-more [] LineOfBlock 0 lines s s line (omega arith) (omega (arith, t .long)) (t .lines-are) e;
+      }
+
+  shown : (lines : List (List ℕ)) (s : ℕ) → s < n → Shows m (blockIn grid s) (getD lines s []) → lineAt m lines s ≡ interfaceAt (systemIn n m grid) s
+  unfolding interfaceAt interfaceFrom systemIn subsystemIn periodAt budgetAt heldAt
+  shown lines s h e =
+      interface-is m lines s (resourceHolding (subsystemIn m (blockIn grid s))) (e .period-is) (e .budget-is) (e .held-is) ∙
+      ap (interfaceFrom m) (sym (subsystem-of-grid n m grid s h))
+
+  pub lines-are-all : (lines : List (List ℕ)) (s : ℕ) → s ≡ n → LinesTo lines s → interfacesIn n m lines ≡ interfacesFrom (systemIn n m grid)
+  unfolding interfacesFrom
+  lines-are-all lines s e t =
+      interfaces-are n m lines (interfaceAt (systemIn n m grid)) (λ r h. shown lines r h (filled-at [] LineOfBlock 0 lines s r r (omega arith) (t .lines-are) (rw e h))) ∙
+      rw (count-of-grid n m grid, resources-of-grid n m grid) refl
+
+-- What the rules left of the whole holds of a block, and what rule 5 left of it.
+module _ (n m : ℕ) (grid : List (List (List ℕ))) (s : ℕ) (h : s < n) where
+  pub sound-slot : SoundSystem (systemIn n m grid) → SoundSlot (blockIn grid s) m
+  unfolding systemIn
+  sound-slot sound =
+      record {
+        sound = rw (← subsystem-of-grid n m grid s h) (sound .subsystem s (rw (count-of-grid n m grid) h));
+        resources-most = sound .resources-most;
+      }
+
+  pub held-slot : (holdings : List (List ℕ)) → HeldIn (systemIn n m grid) holdings → getD holdings s [] ≡ padded (resourceHolding (subsystemIn m (blockIn grid s))) 0 most m
+  held-slot holdings e =
+      rw e (getD-padded (holdingsAt (systemIn n m grid)) (replicate most 0) [] most (subsystemCount (systemIn n m grid)) s (rw (count-of-grid n m grid) h)) ∙
+      sym (held-of-block n m grid s h)
+
+pub few-subsystems : (n m : ℕ) (grid : List (List (List ℕ))) → SoundSystem (systemIn n m grid) → (n ≤ most) × (m ≤ most)
+unfolding systemIn
+few-subsystems n m grid sound = (rw (← count-of-grid n m grid) (sound .subsystems-most), sound .resources-most)
+
+-- Lines that mean the interfaces of a sound system are sound.
+pub sound-lines : (n m : ℕ) (lines : List (List ℕ)) (sys : System) → interfacesIn n m lines ≡ interfacesFrom sys → SoundSystem sys → Sound (interfacesIn n m lines)
+sound-lines n m lines sys e sound = rw e (interfaces-sound sys sound)

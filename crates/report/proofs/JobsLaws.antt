@@ -4,9 +4,7 @@ use native.Mathlib.Omega.{arith}
 use mathlib.Core.Path.{_≡_, sym, ap, _∙_}
 use borrow.Author.Tests.{lt-ltb, le-ltb}
 use lib.ListN.{List·getD-eq-default}
-use Rattle.table.specs.declared.Table.{Table}
-use Rattle.table.specs.Meaning.{System, meaning}
-use Rattle.table.proofs.Parts.{count-of-subsystems}
+use Rattle.table.specs.Meaning.{System}
 use Rattle.rules.specs.declared.Judged.{Judged}
 use Rattle.rules.specs.declared.Judged.the-variants.{Admitted, Refused}
 use Rattle.rules.specs.declared.Rule.{Rule}
@@ -20,7 +18,6 @@ use Rattle.report.specs.declared.jobs.JobEnd.{JobEnd}
 use Rattle.report.specs.declared.jobs.JobEnd.the-variants.{At, Nothing}
 use Rattle.report.specs.Interfaces.{interfacesFrom}
 use Rattle.report.specs.Jobs.{endWith, endOf, endIn, endFor, jobEndOf}
-use Rattle.report.proofs.SoundLaws.{count-of-interfaces}
 
 -- Past the last resource nothing is held.
 pub held-past : (v : View) (l : ℕ) → resources v ≤ l → held v l ≡ 0
@@ -85,7 +82,3 @@ module _ (sys : System) (k l : ℕ) where
         let here : suc s - 1 ≡ s = omega arith in
         let inside : endOf (viewOf (interfacesFrom sys) s) k l ≡ endIn (interfacesFrom sys) (suc s) k l = rw (lt-ltb s (count (interfacesFrom sys)) (omega arith)) in
         q ∙ ap (λ (r : ℕ). endOf (viewOf (interfacesFrom sys) r) k l) here ∙ inside ∙ admitted-ends (suc s) e a
-
--- As many interfaces as the table has subsystems.
-pub count-of-table : (t : Table) → count (interfacesFrom (meaning t)) ≡ t .count
-count-of-table t = count-of-interfaces (meaning t) ∙ count-of-subsystems t

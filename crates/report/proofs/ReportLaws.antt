@@ -10,7 +10,6 @@ use Rattle.table.specs.Limits.{most}
 use Rattle.table.specs.declared.Table.{Table}
 use Rattle.table.specs.Meaning.{System, meaning, MeanTheSame}
 use Rattle.table.specs.Parts.{subsystemCount}
-use Rattle.table.proofs.Parts.{count-of-subsystems}
 use Rattle.rules.specs.declared.Rule.{Rule}
 use Rattle.rules.specs.declared.Place.{Place}
 use Rattle.rules.specs.declared.Judged.{Judged}
@@ -25,29 +24,26 @@ report-of : (sys : System) (j : Judged) → j ≡ judgeOf sys → reportFor j sy
 unfolding reportOf
 report-of sys j e = ap (λ (k : Judged). reportFor k sys) e
 
--- A refused table: the rule and the place, not accepted, and rows of zeros.
+-- A refused system: the rule and the place, not accepted, and rows of zeros.
 pub refused-report :
-    (sys : System) (j : Judged) (k : Rule) (p : Place) (row : Row) → j ≡ judgeOf sys → j ≡ Refused k p → row ≡ noRow →
-    record { judged = j; accepted = false; rows = replicate most row } ≡ reportOf sys
-refused-report sys j k p row e r z =
-    ap₂ (λ (i : Judged) (w : Row). record { judged = i; accepted = false; rows = replicate most w }) r z ∙
-    ap (λ (i : Judged). reportFor i sys) (sym r) ∙ report-of sys j e
+    (sys : System) (j : Judged) (k : Rule) (p : Place) (r : Report) → j ≡ judgeOf sys → j ≡ Refused k p →
+    r ≡ record { judged = j; accepted = false; rows = replicate most noRow } → r ≡ reportOf sys
+refused-report sys j k p r e q f =
+    f ∙ ap (λ (i : Judged). record { judged = i; accepted = false; rows = replicate most noRow }) q ∙
+    ap (λ (i : Judged). reportFor i sys) (sym q) ∙ report-of sys j e
 
--- An admitted table: its rows, and whether each is accepted.
+-- An admitted system: its rows, and whether each is accepted.
 pub admitted-report :
-    (t : Table) (j : Judged) (acc : Bool) (rows : List Row) (n : ℕ) → j ≡ judgeOf (meaning t) → j ≡ Admitted →
-    rows ≡ padded (rowAt (meaning t)) noRow most (t .count) → n ≡ t .count → acc ≡ allTo (slotAccepted rows) n →
-    record { judged = j; accepted = acc; rows = rows } ≡ reportOf (meaning t)
+    (sys : System) (j : Judged) (acc : Bool) (rows : List Row) (n : ℕ) → j ≡ judgeOf sys → j ≡ Admitted →
+    subsystemCount sys ≡ n → rows ≡ padded (rowAt sys) noRow most n → acc ≡ allTo (slotAccepted rows) n →
+    record { judged = j; accepted = acc; rows = rows } ≡ reportOf sys
 unfolding accepted acceptedAt
-admitted-report t j acc rows n e a r q c =
-    let x : acc ≡ accepted (meaning t)
-    = c ∙ ap (allTo (slotAccepted rows)) q ∙ slots-are-rows (rowAt (meaning t)) noRow (t .count) most rows r ∙
-    ap (allTo (acceptedAt (meaning t))) (sym (count-of-subsystems t)) in
-    let y : rows ≡ padded (rowAt (meaning t)) noRow most (subsystemCount (meaning t))
-    = r ∙ ap (padded (rowAt (meaning t)) noRow most) (sym (count-of-subsystems t)) in
+admitted-report sys j acc rows n e a q r c =
+    let x : acc ≡ accepted sys = c ∙ slots-are-rows (rowAt sys) noRow n most rows r ∙ ap (allTo (acceptedAt sys)) (sym q) in
+    let y : rows ≡ padded (rowAt sys) noRow most (subsystemCount sys) = r ∙ ap (padded (rowAt sys) noRow most) (sym q) in
     ap₂ (λ (i : Judged) (b : Bool). record { judged = i; accepted = b; rows = rows }) a x ∙
-    ap (λ (l : List Row). record { judged = Admitted; accepted = accepted (meaning t); rows = l }) y ∙
-    ap (λ (i : Judged). reportFor i (meaning t)) (sym a) ∙ report-of (meaning t) j e
+    ap (λ (l : List Row). record { judged = Admitted; accepted = accepted sys; rows = l }) y ∙
+    ap (λ (i : Judged). reportFor i sys) (sym a) ∙ report-of sys j e
 
 -- Two tables that mean the same get the same report.
 pub same-report : (t t′ : Table) → MeanTheSame t t′ → reportOf (meaning t) ≡ reportOf (meaning t′)

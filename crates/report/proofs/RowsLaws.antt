@@ -6,94 +6,81 @@ use mathlib.Core.Path.{_≡_, refl, sym, ap, ap₂, _∙_}
 use mathlib.Core.List.{List}
 use lib.ListN.{getD, set}
 use Rattle.lists.specs.Range.{padded}
-use Rattle.lists.proofs.UpTo.{padded-set, getD-padded, length-upTo}
+use Rattle.lists.proofs.UpTo.{padded-turn, getD-padded}
 use Rattle.table.specs.Limits.{most}
-use Rattle.table.specs.declared.Subsystem.{Subsystem}
-use Rattle.table.specs.declared.Table.{Table}
-use Rattle.table.specs.Meaning.{SubsystemM, System, subsystemM, meaning, pastSubsystems}
+use Rattle.table.specs.Meaning.{SubsystemM, System}
 use Rattle.table.specs.Parts.{subsystemCount, subsystemOf}
-use Rattle.table.proofs.Parts.{count-of-subsystems, subsystem-of-slot}
+use Rattle.table.specs.Grid.{periodIn, budgetIn, subsystemIn, blockIn, systemIn}
+use Rattle.table.proofs.GridLaws.{count-of-grid, subsystem-of-grid}
 use Rattle.rules.specs.Admitted.{SoundSubsystem, SoundSystem}
 use Rattle.rules.specs.Holding.{holding}
 use Rattle.local.specs.Passing.{firstFailing, givingEnd}
 use Rattle.local.specs.Ready.{Ready}
-use Rattle.global.specs.declared.Interfaces.{Interfaces}
 use Rattle.global.specs.declared.Row.{Row}
-use Rattle.global.specs.Interfaces.{InterfacesM, interfaceAt as global-interfaceAt, meaningOf}
-use Rattle.global.specs.Sound.{Sound}
+use Rattle.global.specs.declared.ceilings.Common.{Common}
+use Rattle.global.specs.Interfaces.{InterfacesM}
 use Rattle.global.specs.Parts.{count, costOf}
 use Rattle.global.specs.Common.{commonOf}
 use Rattle.global.specs.Row.{rowOf}
 use Rattle.report.specs.Interfaces.{interfacesFrom}
 use Rattle.report.specs.Slots.{SoundSlot}
 use Rattle.report.specs.Report.{failingAt, rowAt, noRow}
-use Rattle.report.proofs.SoundLaws.{count-of-interfaces, budget-shown, overrun-shown, interfaces-sound}
-
--- What the task test rests on, with the giving's end.
-pub ready : (sub : Subsystem) (m : ℕ) → SoundSlot sub m → Ready sub m (givingEnd m (subsystemM m sub))
-unfolding givingEnd subsystemM
-ready sub m s =
-    record {
-      sound = s .sound;
-      resources-most = s .resources-most;
-      budget-by-end = omega (arith, s .sound .fits);
-      end-by-period = omega arith;
-    }
+use Rattle.report.proofs.SoundLaws.{count-of-interfaces, budget-shown, overrun-shown}
+use Rattle.report.proofs.InterfaceLaws.{sound-slot}
 
 -- The cost Q + X of subsystem s, as the rows share it.
 cost-shown : (sys : System) (s : ℕ) → s < subsystemCount sys → costOf (interfacesFrom sys) s ≡ subsystemOf sys s .budget + holding (sys .resources) (subsystemOf sys s)
 unfolding costOf
 cost-shown sys s h = ap₂ _+_ (budget-shown sys s h) (overrun-shown sys s h)
 
--- The cost in a slot of the list of costs that the rows share.
-pub cost-in-slot :
-    (t : Table) (g : InterfacesM) (s m : ℕ) → g ≡ interfacesFrom (meaning t) → s < t .count → m ≡ t .resources →
-    getD (commonOf g .costs) s 0 ≡ getD (t .subsystems) s pastSubsystems .budget + holding m (subsystemM m (getD (t .subsystems) s pastSubsystems))
-unfolding commonOf meaning subsystemM
-cost-in-slot t g s m e h q =
-    ap (λ (f : InterfacesM). getD (commonOf f .costs) s 0) e ∙
-    getD-padded (costOf (interfacesFrom (meaning t))) 0 0 most (count (interfacesFrom (meaning t))) s (rw (count-of-interfaces (meaning t), count-of-subsystems t) h) ∙
-    cost-shown (meaning t) s (rw (count-of-subsystems t) h) ∙
-    ap (λ (u : SubsystemM). u .budget + holding (t .resources) u) (subsystem-of-slot t s h) ∙
-    ap (λ (k : ℕ). getD (t .subsystems) s pastSubsystems .budget + holding k (subsystemM k (getD (t .subsystems) s pastSubsystems))) (sym q)
+module _ (n m : ℕ) (grid : List (List (List ℕ))) (s : ℕ) (h : s < n) where
+  abbrev sub : SubsystemM
+  sub = subsystemIn m (blockIn grid s)
 
--- The end of the giving, from the cost.
-pub end-by-cost :
-    (t : Table) (g : InterfacesM) (s m : ℕ) (cost : ℕ) → g ≡ interfacesFrom (meaning t) → s < t .count → m ≡ t .resources →
-    cost ≡ getD (commonOf g .costs) s 0 →
-    getD (t .subsystems) s pastSubsystems .period - (cost - getD (t .subsystems) s pastSubsystems .budget) ≡ givingEnd m (subsystemM m (getD (t .subsystems) s pastSubsystems))
-unfolding givingEnd subsystemM
-end-by-cost t g s m cost e h q c = omega (arith, c, cost-in-slot t g s m e h q)
+  -- The cost in a slot of the list of costs that the rows share.
+  cost-in-slot : (common : Common) (g : InterfacesM) → g ≡ interfacesFrom (systemIn n m grid) → common ≡ commonOf g → getD (common .costs) s 0 ≡ budgetIn (blockIn grid s) + holding m sub
+  unfolding commonOf systemIn subsystemIn
+  cost-in-slot common g e f =
+      ap (λ (c : Common). getD (c .costs) s 0) (f ∙ ap commonOf e) ∙
+      getD-padded (costOf (interfacesFrom (systemIn n m grid))) 0 0 most (count (interfacesFrom (systemIn n m grid))) s (rw (count-of-interfaces (systemIn n m grid), count-of-grid n m grid) h) ∙
+      cost-shown (systemIn n m grid) s (rw (count-of-grid n m grid) h) ∙
+      ap (λ (u : SubsystemM). u .budget + holding m u) (subsystem-of-grid n m grid s h)
 
--- The row in the next slot.
-pub row-filled :
-    (t : Table) (g : InterfacesM) (s m failing : ℕ) (row : Row) (rows : List Row) → g ≡ interfacesFrom (meaning t) →
-    s < t .count → t .count ≤ most → m ≡ t .resources →
-    failing ≡ firstFailing m (subsystemM m (getD (t .subsystems) s pastSubsystems)) (givingEnd m (subsystemM m (getD (t .subsystems) s pastSubsystems))) →
-    row ≡ rowOf g s failing → rows ≡ padded (rowAt (meaning t)) noRow most s →
-    set rows s row ≡ padded (rowAt (meaning t)) noRow most (s + 1)
-unfolding rowAt failingAt meaning
-row-filled t g s m failing row rows e h few q f r p =
-    let x : failing ≡ failingAt (meaning t) s
-    = f ∙ ap (λ (k : ℕ). firstFailing k (subsystemM k (getD (t .subsystems) s pastSubsystems)) (givingEnd k (subsystemM k (getD (t .subsystems) s pastSubsystems)))) q ∙ ap (λ (u : SubsystemM). firstFailing (t .resources) u (givingEnd (t .resources) u)) (sym (subsystem-of-slot t s h)) in
-    let y : row ≡ rowAt (meaning t) s = r ∙ ap₂ (λ (i : InterfacesM) (k : ℕ). rowOf i s k) e x in
-    ap₂ (λ (l : List Row) (v : Row). set l s v) p y ∙ padded-set (rowAt (meaning t)) noRow most s (omega arith)
+  module _ (common : Common) (g : InterfacesM) (e : g ≡ interfacesFrom (systemIn n m grid)) (f : common ≡ commonOf g) (p q : ℕ) (is-p : p ≡ periodIn (blockIn grid s)) (is-q : q ≡ budgetIn (blockIn grid s)) where
+    -- The cost lies between the budget and the period.
+    pub cost-from-budget : q ≤ getD (common .costs) s 0
+    cost-from-budget = omega (arith, is-q, cost-in-slot common g e f)
 
--- The interfaces that mean the table's are as many as its subsystems, and are sound.
-pub as-many-interfaces : (t : Table) (g : Interfaces) → meaningOf g ≡ interfacesFrom (meaning t) → g .count ≡ t .count
-unfolding count meaningOf
-as-many-interfaces t g e =
-    sym (length-upTo (global-interfaceAt g) (g .count)) ∙ ap count e ∙ count-of-interfaces (meaning t) ∙ count-of-subsystems t
+    pub cost-to-period : SoundSystem (systemIn n m grid) → getD (common .costs) s 0 ≤ p
+    unfolding subsystemIn
+    cost-to-period sound = omega (arith, is-p, cost-in-slot common g e f, sound-slot n m grid s h sound .sound .fits)
 
-pub sound-interfaces : (t : Table) (g : Interfaces) → SoundSystem (meaning t) → meaningOf g ≡ interfacesFrom (meaning t) → Sound (meaningOf g)
-sound-interfaces t g s e = rw e (interfaces-sound (meaning t) s)
+    -- The end of the giving, from the cost.
+    pub end-by-cost : p - (getD (common .costs) s 0 - q) ≡ givingEnd m sub
+    unfolding givingEnd subsystemIn
+    end-by-cost = omega (arith, is-p, is-q, cost-in-slot common g e f)
 
--- The cost in a slot of the code's list, between the budget and the period.
-pub cost-between :
-    (t : Table) (g : InterfacesM) (s m cost : ℕ) → SoundSlot (getD (t .subsystems) s pastSubsystems) m → g ≡ interfacesFrom (meaning t) →
-    s < t .count → m ≡ t .resources → cost ≡ getD (commonOf g .costs) s 0 →
-    (getD (t .subsystems) s pastSubsystems .budget ≤ cost) × (cost ≤ getD (t .subsystems) s pastSubsystems .period)
-unfolding subsystemM
-cost-between t g s m cost sound e h q c =
-    let k : cost ≡ getD (t .subsystems) s pastSubsystems .budget + holding m (subsystemM m (getD (t .subsystems) s pastSubsystems)) = c ∙ cost-in-slot t g s m e h q in
-    (omega (arith, k), omega (arith, k, sound .sound .fits))
+    -- What the task test rests on.
+    pub ready-by-cost : SoundSystem (systemIn n m grid) → Ready (blockIn grid s) m (p - (getD (common .costs) s 0 - q))
+    unfolding subsystemIn
+    ready-by-cost sound =
+        let slot = sound-slot n m grid s h sound in
+        record {
+          sound = slot .sound;
+          resources-most = slot .resources-most;
+          budget-by-end = omega (arith, is-p, is-q, cost-in-slot common g e f, slot .sound .fits);
+          end-by-period = omega (arith, is-p);
+        }
+
+    -- The row in the next slot.
+    pub row-filled :
+        (failing : ℕ) (row : Row) (rows : List Row) → n ≤ most → failing ≡ firstFailing m sub (p - (getD (common .costs) s 0 - q)) →
+        row ≡ rowOf g s failing → rows ≡ padded (rowAt (systemIn n m grid)) noRow most s →
+        set rows s row ≡ padded (rowAt (systemIn n m grid)) noRow most (s + 1)
+    unfolding rowAt failingAt systemIn
+    row-filled failing row rows few x r t =
+        let here : failing ≡ failingAt (systemIn n m grid) s =
+        x ∙ ap (firstFailing m sub) end-by-cost ∙
+        ap (λ (u : SubsystemM). firstFailing m u (givingEnd m u)) (sym (subsystem-of-grid n m grid s h)) in
+        padded-turn (rowAt (systemIn n m grid)) noRow most s (omega arith) rows row t
+        (r ∙ ap₂ (λ (i : InterfacesM) (k : ℕ). rowOf i s k) e here)

@@ -1,87 +1,57 @@
-// The interfaces of an admitted table: what the other subsystems see of each.
+// The interfaces of an admitted table: what the other subsystems see of each, as lines of numbers. The holding times are those
+// that rule 5 has left.
 ghost use mathlib.Core.Path.{_≡_};
-ghost use Prim.Native.Nat.{_≤_, _<_, _^_};
+ghost use lib.ListN.{length};
 ghost use Rattle.lists.specs.Range.{padded};
 ghost use Rattle.table.specs.Limits.{most};
-ghost use Rattle.table.specs.Meaning.{meaning, subsystemM};
-ghost use Rattle.table.specs.Columns.{Works, Accesses};
+ghost use Rattle.table.specs.Grid.{subsystemIn, systemIn};
 ghost use Rattle.rules.specs.Holding.{resourceHolding};
-ghost use Rattle.rules.specs.Admitted.{SoundSubsystem, SoundSystem};
-ghost use Rattle.global.specs.Interfaces.{interfaceM, meaningOf};
-ghost use Rattle.report.specs.Interfaces.{interfaceFrom, interfacesFrom};
-ghost use Rattle.report.specs.Slots.{SoundSlot};
-use global::Interface;
-use global::Interfaces;
-use table::Subsystem;
+ghost use Rattle.rules.specs.Held.{HeldIn};
+ghost use Rattle.rules.specs.Admitted.{SoundSystem};
+ghost use Rattle.global.specs.Interfaces.{interfacesIn};
+ghost use Rattle.report.specs.Interfaces.{interfacesFrom};
+ghost use Rattle.report.specs.Slots.{SoundSlot, Shows};
+use global::interfaces::WIDTH;
 use table::Table;
-use table::columns::take_columns;
-
-// X(s, l) of each resource.
-fn holdings_of(
-    sub: Subsystem,
-    m: usize,
-    works: &[u32; Table::MOST],
-    accesses: &[[u32; Table::MOST]; Table::MOST],
-) -> [u32; Table::MOST]
-    requires { ⌜ SoundSlot sub m ⌝ }
-    requires { ⌜ Works sub (now works) × Accesses sub (now accesses) ⌝ }
-    ensures { λ r. ⌜ r ≡ padded (resourceHolding (subsystemM m sub)) 0 most m ⌝ }
-{
-    let mut holdings = [0u32; Table::MOST];
-    let mut l = 0;
-    while l < m {
-        holdings[l] = rules::holding::resource_holding(sub, m, l, works, accesses) as u32;
-        l += 1;
-    }
-    holdings
-}
+use table::grid::BLOCK;
+use table::grid::LINE;
+use table::grid::budget;
+use table::grid::period;
 
 // The interface of one subsystem.
-pub fn interface_of(sub: Subsystem, m: usize) -> Interface
-    requires { ⌜ SoundSlot sub m ⌝ }
-    ensures { λ r. ⌜ interfaceM m r ≡ interfaceFrom m (subsystemM m sub) ⌝ }
+fn interface_of(block: &[[u32; LINE]; BLOCK], m: usize, held: &[u64; Table::MOST]) -> [u32; WIDTH]
+    requires { ⌜ SoundSlot (now block) m ⌝ }
+    requires { ⌜ now held ≡ padded (resourceHolding (subsystemIn m (now block))) 0 most m ⌝ }
+    ensures { λ r. ⌜ Shows m (now (block .entry)) r ⌝ }
 {
-    let mut separations = [0u32; Table::MOST];
-    let mut works = [0u32; Table::MOST];
-    let mut deadlines = [0u32; Table::MOST];
-    let mut accesses = [[0u32; Table::MOST]; Table::MOST];
-    take_columns(
-        sub,
-        &mut separations,
-        &mut works,
-        &mut deadlines,
-        &mut accesses,
-    );
-    let holding = holdings_of(sub, m, &works, &accesses);
-    Interface {
-        period: sub.period,
-        budget: sub.budget,
-        holding: holding,
+    let mut line = [0u32; WIDTH];
+    line[0] = period(block);
+    line[1] = budget(block);
+    let mut l = 0;
+    while l < m {
+        line[l + 2] = held[l] as u32;
+        l += 1;
     }
+    line
 }
 
-// The interfaces of all subsystems.
-pub fn interfaces_of(t: Table) -> Interfaces
-    requires { ⌜ SoundSystem (meaning t) ⌝ }
-    ensures { λ r. ⌜ meaningOf r ≡ interfacesFrom (meaning t) ⌝ }
+// The interfaces of all subsystems, whatever the lines held.
+pub fn interfaces_of(
+    grid: &[[[u32; LINE]; BLOCK]; Table::MOST],
+    n: usize,
+    m: usize,
+    holdings: &[[u64; Table::MOST]; Table::MOST],
+    lines: &mut [[u32; WIDTH]; Table::MOST],
+)
+    requires { ⌜ SoundSystem (systemIn n m (now grid)) ⌝ }
+    requires { ⌜ HeldIn (systemIn n m (now grid)) (now holdings) ⌝ }
+    requires { ⌜ length (now lines) ≡ most ⌝ }
+    ensures { λ _. ⌜ interfacesIn n m (now (lines .exit)) ≡ interfacesFrom (systemIn n m (now (grid .entry))) ⌝ }
 {
-    let n = numbers::index(t.count);
-    let m = numbers::index(t.resources);
-    let none = Interface {
-        period: 0,
-        budget: 0,
-        holding: [0; Table::MOST],
-    };
-    let mut interfaces = [none; Table::MOST];
     let mut s = 0;
     while s < n {
-        let sub = t.subsystems[s];
-        interfaces[s] = interface_of(sub, m);
+        let line = interface_of(&grid[s], m, &holdings[s]);
+        lines[s] = line;
         s += 1;
-    }
-    Interfaces {
-        count: n,
-        resources: m,
-        interfaces: interfaces,
     }
 }

@@ -2,15 +2,27 @@
 ghost use mathlib.Core.Path.{_≡_};
 ghost use Prim.Native.Nat.{_<_};
 ghost use Rattle.table.specs.Meaning.{meaning};
-ghost use Rattle.global.specs.Interfaces.{meaningOf};
+ghost use Rattle.table.specs.Grid.{systemIn};
+ghost use Rattle.rules.specs.Held.{HeldIn};
+ghost use Rattle.rules.specs.Admitted.{SoundSystem};
+ghost use Rattle.global.specs.Interfaces.{interfacesIn};
 ghost use Rattle.global.specs.View.{viewOf};
 ghost use Rattle.global.specs.Common.{commonOf};
 ghost use Rattle.global.specs.Sound.{Sound};
+ghost use Rattle.rules.specs.declared.Judged.the-variants.{Admitted};
+ghost use Rattle.rules.specs.Rules.{countsJudged};
 ghost use Rattle.report.specs.Jobs.{endOf, jobEndOf};
+use crate::interface::interfaces_of;
 use global::Common;
-use global::Interfaces;
+use global::interfaces::WIDTH;
+use global::interfaces::held;
+use numbers::index;
 use rules::Judged;
+use rules::judging::judge_counts;
+use rules::judging::judge_grid;
 use table::Table;
+use table::grid::BLOCK;
+use table::grid::LINE;
 
 // Where a job ends, or that there is nothing of the kind.
 pub enum JobEnd {
@@ -19,26 +31,62 @@ pub enum JobEnd {
 }
 
 // The end of job k of the subsystem at index s; l = 0 asks for the end of its budget, l from 1 for its end with resource l.
-fn end_of(g: Interfaces, common: Common, s: usize, k: u32, l: usize) -> JobEnd
-    requires { ⌜ Sound (meaningOf g) ⌝ }
-    requires { ⌜ common ≡ commonOf (meaningOf g) ⌝ }
-    requires { ⌜ s < g .count ⌝ }
-    ensures { λ r. ⌜ r ≡ endOf (viewOf (meaningOf g) s) k l ⌝ }
+fn end_of(
+    lines: &[[u32; WIDTH]; Table::MOST],
+    n: usize,
+    m: usize,
+    common: Common,
+    s: usize,
+    k: u32,
+    l: usize,
+) -> JobEnd
+    requires { ⌜ Sound (interfacesIn n m (now lines)) ⌝ }
+    requires { ⌜ common ≡ commonOf (interfacesIn n m (now lines)) ⌝ }
+    requires { ⌜ s < n ⌝ }
+    ensures { λ r. ⌜ r ≡ endOf (viewOf (interfacesIn n m (now (lines .entry))) s) k l ⌝ }
 {
-    if ends::jobs_of(g, common, s) <= k {
+    if ends::jobs_of(lines, n, m, common, s) <= k {
         return JobEnd::Nothing;
     }
     if l == 0 {
-        return JobEnd::At(ends::budget_end(g, common, s, k));
+        return JobEnd::At(ends::budget_end(lines, n, m, common, s, k));
     }
-    if g.resources < l {
+    if m < l {
         return JobEnd::Nothing;
     }
-    let i = g.interfaces[s];
-    if i.holding[l - 1] == 0 {
+    if held(lines, s, l - 1) == 0 {
         return JobEnd::Nothing;
     }
-    JobEnd::At(ends::job_end(g, common, s, k, l - 1))
+    JobEnd::At(ends::job_end(lines, n, m, common, s, k, l - 1))
+}
+
+// The same for a grid whose counts rule 1 has passed, for any s.
+fn end_in_grid(
+    grid: &[[[u32; LINE]; BLOCK]; Table::MOST],
+    n: usize,
+    m: usize,
+    s: usize,
+    k: u32,
+    l: usize,
+) -> JobEnd
+    requires { ⌜ countsJudged (systemIn n m (now grid)) ≡ Admitted ⌝ }
+    ensures { λ r. ⌜ r ≡ jobEndOf (systemIn n m (now (grid .entry))) s k l ⌝ }
+{
+    let mut holdings = [[0u64; Table::MOST]; Table::MOST];
+    let judged = judge_grid(grid, n, m, &mut holdings);
+    let Judged::Admitted = judged else {
+        return JobEnd::Nothing;
+    };
+    if s == 0 {
+        return JobEnd::Nothing;
+    }
+    if n < s {
+        return JobEnd::Nothing;
+    }
+    let mut lines = [[0u32; WIDTH]; Table::MOST];
+    interfaces_of(grid, n, m, &holdings, &mut lines);
+    let common = global::in_common(&lines, n, m);
+    end_of(&lines, n, m, common, s - 1, k, l)
 }
 
 // The end of job k of subsystem s with resource l, in ticks from the start of the active period; subsystems and resources
@@ -47,17 +95,18 @@ fn end_of(g: Interfaces, common: Common, s: usize, k: u32, l: usize) -> JobEnd
 pub fn job_end(t: Table, s: u8, k: u32, l: u8) -> JobEnd
     ensures { λ r. ⌜ r ≡ jobEndOf (meaning t) s k l ⌝ }
 {
-    let judged = rules::judging::judge(t);
-    let Judged::Admitted = judged else {
+    let counts = judge_counts(t);
+    let Judged::Admitted = counts else {
         return JobEnd::Nothing;
     };
-    if s == 0 {
-        return JobEnd::Nothing;
-    }
-    if t.count < s {
-        return JobEnd::Nothing;
-    }
-    let g = crate::interface::interfaces_of(t);
-    let common = global::in_common(g);
-    end_of(g, common, numbers::index(s) - 1, k, numbers::index(l))
+    let mut grid = [[[0u32; LINE]; BLOCK]; Table::MOST];
+    table::grid::lay_out(t, &mut grid);
+    end_in_grid(
+        &grid,
+        index(t.count),
+        index(t.resources),
+        index(s),
+        k,
+        index(l),
+    )
 }

@@ -1,19 +1,19 @@
 -- Laws of what breaks a rule: how a test in the code settles the definition. Assumes nothing.
-use Prim.Native.Nat.{ℕ, _+_, _≤_, _<_}
+use Prim.Native.Nat.{ℕ, zero, suc, _+_, _≤_, _<_, max}
+use native.Mathlib.Nat.{le-trans}
 use native.Mathlib.Omega.{arith}
+use mathlib.Core.Logic.{_⊎_, inl, inr}
 use mathlib.Core.Path.{_≡_, refl, sym, ap, _∙_}
 use mathlib.Core.Bool.{Bool, true, false, not, _||_, _&&_}
+use mathlib.Core.List.{List}
 use borrow.Author.Tests.{lt-ltb, le-ltb, le-leb, lt-leb}
 use lib.Dec.{ltb, leb}
-use lib.ListN.{getD}
-use Rattle.lists.specs.Range.{allTo}
-use Rattle.lists.proofs.Over.{allTo-suc, allTo-fails}
-use Rattle.table.specs.declared.Task.{Task}
-use Rattle.table.specs.declared.Subsystem.{Subsystem}
+use Rattle.lists.specs.Range.{allTo, largestTo}
+use Rattle.lists.proofs.Over.{le-or-lt, allTo-ext, allTo-is, allTo-fails, below-largest, largest-reached, largestTo-suc}
 use Rattle.table.specs.Limits.{largest}
-use Rattle.table.specs.Meaning.{taskM, subsystemM}
-use Rattle.table.specs.Parts.{accessOf, taskCount}
-use Rattle.table.proofs.Parts.{access-of-slot, count-of-tasks}
+use Rattle.table.specs.Meaning.{TaskM, SubsystemM}
+use Rattle.table.specs.Grid.{periodIn, budgetIn, separationIn, workIn, deadlineIn, accessIn, taskIn, subsystemIn}
+use Rattle.table.proofs.GridLaws.{access-of-line}
 use Rattle.rules.specs.declared.Rule.{Rule}
 use Rattle.rules.specs.declared.Rule.the-variants.{Counts, Range, Order, Access, Overrun}
 use Rattle.rules.specs.Holding.{holding}
@@ -26,104 +26,84 @@ out-below x most h = rw (lt-ltb x 1 h)
 pub out-above : (x most : ℕ) → 1 ≤ x → ltb most x ≡ (ltb x 1 || ltb most x)
 out-above x most h = rw (le-ltb x 1 h)
 
-module _ (m limit : ℕ) (task : Task) where
-  within-slot : (l : ℕ) → l < m → accessWithin limit (taskM m task) l ≡ leb (getD (task .access) l 0) limit
-  unfolding accessWithin
-  within-slot l h = ap (λ (x : ℕ). leb x limit) (access-of-slot m task l h)
+-- One of two, by tests in a row: the first has passed, or it has failed and the second decides.
+pub or-first : (a b t : Bool) → t ≡ a → t ≡ true → true ≡ (a || b)
+or-first a b t e h = rw (← e, h)
 
-  -- An access above the limit decides.
-  pub access-above : (l : ℕ) → l < m → limit < getD (task .access) l 0 → true ≡ someAccessAbove m limit (taskM m task)
-  unfolding someAccessAbove
-  access-above l h k =
-      ap not (sym (allTo-fails (accessWithin limit (taskM m task)) m l h (within-slot l h ∙ lt-leb _ limit k)))
+pub or-second : (a b t x : Bool) → t ≡ a → t ≡ false → x ≡ b → x ≡ (a || b)
+or-second a b t x e h f = rw (← e, h) f
 
-  -- An access within the limit: so far all are.
-  pub access-within-turn :
-      (l : ℕ) → l < m → getD (task .access) l 0 ≤ limit → allTo (accessWithin limit (taskM m task)) l ≡ true →
-      allTo (accessWithin limit (taskM m task)) (l + 1) ≡ true
-  access-within-turn l h k e = rw (allTo-suc (accessWithin limit (taskM m task)) l, e, within-slot l h) (le-leb _ limit k)
+-- One of four, likewise.
+module _ (a b c d t : Bool) (e : t ≡ a) where
+  pub four-first : t ≡ true → true ≡ (a || b || c || d)
+  four-first h = rw (← e, h)
 
-  -- All are within the limit.
-  pub no-access-above : (l : ℕ) → l ≡ m → allTo (accessWithin limit (taskM m task)) l ≡ true → false ≡ someAccessAbove m limit (taskM m task)
-  unfolding someAccessAbove
-  no-access-above l q e = ap not (sym e) ∙ ap (λ (k : ℕ). not (allTo (accessWithin limit (taskM m task)) k)) q
+  module _ (h : t ≡ false) (u : Bool) (f : u ≡ b) where
+    pub four-second : u ≡ true → true ≡ (a || b || c || d)
+    four-second k = rw (← e, h, ← f, k)
 
-------------------------------------------------------------------------
--- One law for each way out of the code that judges a subsystem
+    module _ (k : u ≡ false) (v : Bool) (g : v ≡ c) where
+      pub four-third : v ≡ true → true ≡ (a || b || c || d)
+      four-third l = rw (← e, h, ← f, k, ← g, l)
 
-module _ (m : ℕ) (sub : Subsystem) where
-  -- What holds of the rule that a match found holds of the rule that was given.
-  pub for-subsystem : (b : Bool) (k j : Rule) → k ≡ j → b ≡ subsystemBreaks m j (subsystemM m sub) → b ≡ subsystemBreaks m k (subsystemM m sub)
-  for-subsystem b k j e h = h ∙ ap (λ (r : Rule). subsystemBreaks m r (subsystemM m sub)) (sym e)
+      pub four-last : v ≡ false → d ≡ (a || b || c || d)
+      four-last l = rw (← e, h, ← f, k, ← g, l) refl
 
-  pub counts-by : (b : Bool) → b ≡ countOut (sub .count) → b ≡ subsystemBreaks m Counts (subsystemM m sub)
+-- A turn of the longest access of a task.
+pub access-turn : (block : List (List ℕ)) (i l longest x : ℕ) → longest ≡ largestTo (accessIn block i) l → x ≡ accessIn block i l → max longest x ≡ largestTo (accessIn block i) (l + 1)
+access-turn block i l longest x e f = rw (largestTo-suc (accessIn block i) l, e, f) refl
+
+-- Some number is above a limit exactly where the largest is.
+above-by-largest : (f : ℕ → ℕ) (limit n : ℕ) → not (allTo (λ l. leb (f l) limit) n) ≡ ltb limit (largestTo f n)
+above-by-largest f limit n = go (le-or-lt (largestTo f n) limit) (largest-reached f n)
+  where
+    none-above : largestTo f n ≤ limit → not (allTo (λ l. leb (f l) limit) n) ≡ ltb limit (largestTo f n)
+    none-above h =
+        rw (allTo-is (λ l. leb (f l) limit) n (λ l k. le-leb (f l) limit (le-trans (below-largest f n l k) h)), le-ltb limit (largestTo f n) h) refl
+
+    go :
+        (largestTo f n ≤ limit) ⊎ (limit < largestTo f n) → (largestTo f n ≡ 0) ⊎ ((i : ℕ) × (i < n) × (f i ≡ largestTo f n)) →
+        not (allTo (λ l. leb (f l) limit) n) ≡ ltb limit (largestTo f n)
+    go (inl h) r = none-above h
+    go (inr h) (inl z) = none-above (omega arith)
+    go (inr h) (inr r) =
+        rw (allTo-fails (λ l. leb (f l) limit) n (r .0) (r .1) (lt-leb (f (r .0)) limit (rw (r .2) h)), lt-ltb limit (largestTo f n) h) refl
+
+module _ (m : ℕ) (block : List (List ℕ)) (i longest : ℕ) (e : longest ≡ largestTo (accessIn block i) m) where
+  access-above : (limit : ℕ) → ltb limit longest ≡ someAccessAbove m limit (taskIn m block i)
+  unfolding someAccessAbove accessWithin
+  access-above limit =
+      rw e
+      (sym (ap not (allTo-ext (accessWithin limit (taskIn m block i)) (λ l. leb (accessIn block i l) limit) m (λ l k. ap (λ (x : ℕ). leb x limit) (access-of-line m block i l k))) ∙
+      above-by-largest (accessIn block i) limit m))
+
+  -- What the code tests of a task, rule by rule.
+  pub task-range : (b : Bool) → b ≡ (timeOut (separationIn block i) || timeOut (workIn block i) || timeOut (deadlineIn block i) || ltb largest longest) → taskBreaks m Range (taskIn m block i) ≡ b
+  unfolding taskBreaks taskIn
+  task-range b f = sym (f ∙ rw (access-above largest) refl)
+
+  pub task-access : ltb (workIn block i) longest ≡ taskBreaks m Access (taskIn m block i)
+  unfolding taskBreaks taskIn
+  task-access = access-above (workIn block i)
+
+pub task-order : (m : ℕ) (block : List (List ℕ)) (i : ℕ) (b : Bool) → b ≡ (ltb (deadlineIn block i) (workIn block i) || ltb (separationIn block i) (deadlineIn block i)) → taskBreaks m Order (taskIn m block i) ≡ b
+unfolding taskBreaks taskIn
+task-order m block i b f = sym f
+
+-- And of a subsystem at its own place.
+module _ (m : ℕ) (block : List (List ℕ)) where
+  pub own-range : (b : Bool) → b ≡ (timeOut (periodIn block) || timeOut (budgetIn block)) → subsystemBreaks m Range (subsystemIn m block) ≡ b
+  unfolding subsystemBreaks subsystemIn
+  own-range b f = sym f
+
+  pub own-order : subsystemBreaks m Order (subsystemIn m block) ≡ ltb (periodIn block) (budgetIn block)
+  unfolding subsystemBreaks subsystemIn
+  own-order = refl
+
+  pub own-access : subsystemBreaks m Access (subsystemIn m block) ≡ false
   unfolding subsystemBreaks
-  counts-by b e = rw (count-of-tasks m sub) e
+  own-access = refl
 
-  pub range-by-period : (b : Bool) → b ≡ timeOut (sub .period) → b ≡ true → true ≡ subsystemBreaks m Range (subsystemM m sub)
-  unfolding subsystemBreaks subsystemM
-  range-by-period b e h = rw (← e, h)
-
-  pub range-by-budget : (a b : Bool) → a ≡ timeOut (sub .period) → a ≡ false → b ≡ timeOut (sub .budget) → b ≡ subsystemBreaks m Range (subsystemM m sub)
-  unfolding subsystemBreaks subsystemM
-  range-by-budget a b e h f = rw (← e, h) f
-
-  pub order-by-budget : ltb (sub .period) (sub .budget) ≡ subsystemBreaks m Order (subsystemM m sub)
-  unfolding subsystemBreaks subsystemM
-  order-by-budget = refl
-
-  pub access-of-none : false ≡ subsystemBreaks m Access (subsystemM m sub)
-  unfolding subsystemBreaks
-  access-of-none = refl
-
-  pub overrun-by : (p b x : ℕ) → p ≡ sub .period → b ≡ sub .budget → x ≡ holding m (subsystemM m sub) → ltb p (b + x) ≡ subsystemBreaks m Overrun (subsystemM m sub)
-  unfolding subsystemBreaks subsystemM
-  overrun-by p b x e f g = rw (e, f, g)
-
-------------------------------------------------------------------------
--- And of the code that judges a task
-
-module _ (m : ℕ) (task : Task) where
-  pub for-task : (b : Bool) (k j : Rule) → k ≡ j → b ≡ taskBreaks m j (taskM m task) → b ≡ taskBreaks m k (taskM m task)
-  for-task b k j e h = h ∙ ap (λ (r : Rule). taskBreaks m r (taskM m task)) (sym e)
-
-  pub counts-of-none : false ≡ taskBreaks m Counts (taskM m task)
-  unfolding taskBreaks
-  counts-of-none = refl
-
-  pub range-by-separation : (a : Bool) → a ≡ timeOut (task .separation) → a ≡ true → true ≡ taskBreaks m Range (taskM m task)
-  unfolding taskBreaks taskM
-  range-by-separation a e h = rw (← e, h)
-
-  pub range-by-work : (a b : Bool) → a ≡ timeOut (task .separation) → a ≡ false → b ≡ timeOut (task .work) → b ≡ true → true ≡ taskBreaks m Range (taskM m task)
-  unfolding taskBreaks taskM
-  range-by-work a b e h f k = rw (← e, h, ← f, k)
-
-  pub range-by-deadline :
-      (a b d : Bool) → a ≡ timeOut (task .separation) → a ≡ false → b ≡ timeOut (task .work) → b ≡ false →
-      d ≡ timeOut (task .deadline) → d ≡ true → true ≡ taskBreaks m Range (taskM m task)
-  unfolding taskBreaks taskM
-  range-by-deadline a b d e h f k g l = rw (← e, h, ← f, k, ← g, l)
-
-  pub range-by-access :
-      (a b d x : Bool) → a ≡ timeOut (task .separation) → a ≡ false → b ≡ timeOut (task .work) → b ≡ false →
-      d ≡ timeOut (task .deadline) → d ≡ false → x ≡ someAccessAbove m largest (taskM m task) →
-      x ≡ taskBreaks m Range (taskM m task)
-  unfolding taskBreaks taskM
-  range-by-access a b d x e h f k g l q = rw (← e, h, ← f, k, ← g, l) q
-
-  pub order-by-work : task .deadline < task .work → true ≡ taskBreaks m Order (taskM m task)
-  unfolding taskBreaks taskM
-  order-by-work h = rw (lt-ltb (task .deadline) (task .work) h)
-
-  pub order-by-deadline : task .work ≤ task .deadline → ltb (task .separation) (task .deadline) ≡ taskBreaks m Order (taskM m task)
-  unfolding taskBreaks taskM
-  order-by-deadline h = rw (le-ltb (task .deadline) (task .work) h)
-
-  pub access-by-work : (x : Bool) → x ≡ someAccessAbove m (task .work) (taskM m task) → x ≡ taskBreaks m Access (taskM m task)
-  unfolding taskBreaks taskM
-  access-by-work x e = e
-
-  pub overrun-of-none : false ≡ taskBreaks m Overrun (taskM m task)
-  unfolding taskBreaks
-  overrun-of-none = refl
+  pub own-overrun : (p b x : ℕ) → p ≡ periodIn block → b ≡ budgetIn block → x ≡ holding m (subsystemIn m block) → subsystemBreaks m Overrun (subsystemIn m block) ≡ ltb p (b + x)
+  unfolding subsystemBreaks subsystemIn
+  own-overrun p b x e f g = rw (e, f, g) refl

@@ -9,23 +9,30 @@ use borrow.Author.Tests.{lt-ltb, le-ltb, ltb-false, eq-eqb, ne-eqb}
 use lib.Dec.{ltb, eqb}
 use lib.ListN.{getD}
 use Rattle.lists.specs.Range.{firstOf, firstSuch}
-use Rattle.lists.proofs.First.{firstOf-none, firstSuch-none}
+use Rattle.lists.proofs.First.{firstOf-none, firstOf-nowhere, firstSuch-none}
 use Rattle.table.specs.declared.Subsystem.{Subsystem}
 use Rattle.table.specs.declared.Table.{Table}
 use Rattle.table.specs.Limits.{most}
 use Rattle.table.specs.Meaning.{SubsystemM, System, subsystemM, pastSubsystems, meaning}
 use Rattle.table.specs.Parts.{taskCount, subsystemCount, subsystemOf}
+use mathlib.Core.List.{List}
+use Rattle.table.specs.Grid.{countIn, blockIn, systemIn, HasRoom}
 use Rattle.table.proofs.Parts.{count-of-tasks, count-of-subsystems, subsystem-of-slot}
+use Rattle.table.proofs.GridLaws.{count-of-block, count-of-grid, subsystem-of-grid}
 use Rattle.rules.specs.declared.Rule.{Rule}
 use Rattle.rules.specs.declared.Rule.the-variants.{Counts, Range, Order, Access, Overrun}
 use Rattle.rules.specs.declared.Place.{Place}
 use Rattle.rules.specs.declared.Judged.{Judged}
 use Rattle.rules.specs.declared.Judged.the-variants.{Admitted, Refused}
-use Rattle.rules.specs.Rules.{countOut, tableBreaks, subsystemBreaks, placeBreaks, offenderIn, offenderAt, offender, place, refusedAt, judgedBy, unlessRefused, judgedPastCounts, judgeOf, judgeOneOf}
-use Rattle.rules.specs.Slots.{Counted, CountedTable}
+use Rattle.rules.specs.Rules.{countOut, tableBreaks, subsystemBreaks, placeBreaks, offenderIn, offenderAt, offender, place, refusedAt, judgedBy, unlessRefused, judgedPastCounts, countsJudged, judgeOf, judgeOneOf}
+use Rattle.rules.proofs.JudgingLaws.{own-nowhere, no-task-counts}
+use Rattle.rules.specs.Slots.{CountedSystem, CountedTable, CountedGrid}
 
 ------------------------------------------------------------------------
 -- The order
+
+pub refused-not-admitted : (k : Rule) (p : Place) → Refused k p ≡ Admitted → ⊥
+refused-not-admitted k p e = let z : _≡_ {A = ℕ} 0 1 = cc in absurd (omega arith)
 
 -- A refusal stands.
 pub refusal-stands : (j x next : Judged) (k : Rule) (p : Place) → j ≡ x → j ≡ Refused k p → j ≡ unlessRefused x next
@@ -54,25 +61,38 @@ unfolding tableBreaks meaning
 table-by t = ap (λ (n : ℕ). countOut n || ltb most (t .resources)) (count-of-subsystems t)
 
 module _ (t : Table) (b : Bool) (e : b ≡ countOut (t .count)) where
-  whole-refused : tableBreaks (meaning t) ≡ true → Refused Counts (place 0 0) ≡ judgeOf (meaning t)
-  unfolding judgeOf
+  whole-refused : tableBreaks (meaning t) ≡ true → Refused Counts (place 0 0) ≡ countsJudged (meaning t)
+  unfolding countsJudged
   whole-refused h = rw h
 
-  pub refused-by-n : b ≡ true → Refused Counts (place 0 0) ≡ judgeOf (meaning t)
+  pub refused-by-n : b ≡ true → Refused Counts (place 0 0) ≡ countsJudged (meaning t)
   refused-by-n h = whole-refused (table-by t ∙ rw (← e, h))
 
-  pub refused-by-m : b ≡ false → most < t .resources → Refused Counts (place 0 0) ≡ judgeOf (meaning t)
+  pub refused-by-m : b ≡ false → most < t .resources → Refused Counts (place 0 0) ≡ countsJudged (meaning t)
   refused-by-m h l = whole-refused (table-by t ∙ rw (← e, h) (lt-ltb most (t .resources) l))
 
-  -- N and M are in range: the rest decides.
-  pub past-the-whole : b ≡ false → t .resources ≤ most → unlessRefused (judgedBy (meaning t) Counts) (judgedPastCounts (meaning t)) ≡ judgeOf (meaning t)
-  unfolding judgeOf
+  -- N and M are in range: each n decides.
+  pub past-the-whole : b ≡ false → t .resources ≤ most → judgedBy (meaning t) Counts ≡ countsJudged (meaning t)
+  unfolding countsJudged
   past-the-whole h l =
       let q : tableBreaks (meaning t) ≡ false = table-by t ∙ rw (← e, h) (le-ltb most (t .resources) l) in
       rw q
 
   pub count-in-range : b ≡ false → (1 ≤ t .count) × (t .count ≤ most)
   count-in-range h = in-range (t .count) (sym e ∙ h)
+
+-- Rule 1 comes first, and the rest behind it.
+pub counts-first : (sys : System) → unlessRefused (countsJudged sys) (judgedPastCounts sys) ≡ judgeOf sys
+unfolding countsJudged judgeOf
+counts-first sys = go (tableBreaks sys)
+  where
+    go : (b : Bool) → unlessRefused (cond b (Refused Counts (place 0 0)) (judgedBy sys Counts)) (judgedPastCounts sys) ≡ cond b (Refused Counts (place 0 0)) (unlessRefused (judgedBy sys Counts) (judgedPastCounts sys))
+    go true = refl
+    go false = refl
+
+-- Where rule 1 refuses nothing, the rest decides.
+pub past-counts : (sys : System) → countsJudged sys ≡ Admitted → judgedPastCounts sys ≡ judgeOf sys
+past-counts sys e = ap (λ (j : Judged). unlessRefused j (judgedPastCounts sys)) (sym e) ∙ counts-first sys
 
 ------------------------------------------------------------------------
 -- What rule 1 gives the rules after it
@@ -98,20 +118,98 @@ passed-rule sys k e s h i l =
     (mapped-none (place (s + 1)) _ (firstOf-none (offenderAt sys k) (subsystemCount sys) 0 (no-offender sys k e) s (omega arith) (omega arith)))
     i (omega arith) (omega arith)
 
--- The tables that rule 1 passes have counts within their arrays.
-pub counted-table : (t : Table) → t .count ≤ most → t .resources ≤ most → (j : Judged) → j ≡ judgedBy (meaning t) Counts → j ≡ Admitted → CountedTable t
-unfolding placeBreaks subsystemBreaks
-counted-table t n m j e a = record { subsystems-most = n; resources-most = m; counted = counted }
+-- What rule 1 passes as a whole.
+counts-passed : (sys : System) → countsJudged sys ≡ Admitted → (tableBreaks sys ≡ false) × (judgedBy sys Counts ≡ Admitted)
+unfolding countsJudged
+counts-passed sys e = go (tableBreaks sys) refl e
   where
-    count-passed : (s : ℕ) → s < t .count → countOut (getD (t .subsystems) s pastSubsystems .count) ≡ false
-    count-passed s h =
-        sym (ap countOut (count-of-tasks (t .resources) (getD (t .subsystems) s pastSubsystems))) ∙
-        ap (λ (u : SubsystemM). countOut (taskCount u)) (sym (subsystem-of-slot t s h)) ∙
-        passed-rule (meaning t) Counts (sym e ∙ a) s (rw (count-of-subsystems t) h) 0 (omega arith)
+    go : (b : Bool) → tableBreaks sys ≡ b → cond b (Refused Counts (place 0 0)) (judgedBy sys Counts) ≡ Admitted → (tableBreaks sys ≡ false) × (judgedBy sys Counts ≡ Admitted)
+    go true p q = let z : _≡_ {A = ℕ} 0 1 = cc in absurd (omega arith)
+    go false p q = (p, q)
 
-    counted : (s : ℕ) → s < t .count → Counted (getD (t .subsystems) s pastSubsystems) (t .resources)
-    counted s h =
-        let r = in-range _ (count-passed s h) in record { some-task = r .0; tasks-most = r .1; resources-most = m }
+-- The systems that rule 1 passes have counts in range.
+pub counted-system : (sys : System) → countsJudged sys ≡ Admitted → CountedSystem sys
+unfolding tableBreaks placeBreaks subsystemBreaks
+counted-system sys e =
+    record {
+      subsystems-least = in-range (subsystemCount sys) (whole .0) .0;
+      subsystems-most = in-range (subsystemCount sys) (whole .0) .1;
+      resources-most = ltb-false most (sys .resources) (whole .1);
+      some-task = λ s h. in-range _ (own s h) .0;
+      tasks-most = λ s h. in-range _ (own s h) .1;
+    }
+  where
+    passed : (tableBreaks sys ≡ false) × (judgedBy sys Counts ≡ Admitted)
+    passed = counts-passed sys e
+
+    whole : (countOut (subsystemCount sys) ≡ false) × (ltb most (sys .resources) ≡ false)
+    whole = neither (countOut (subsystemCount sys)) (ltb most (sys .resources)) (passed .0)
+
+    own : (s : ℕ) → s < subsystemCount sys → countOut (taskCount (subsystemOf sys s)) ≡ false
+    own s h = passed-rule sys Counts (passed .1) s h 0 (omega arith)
+
+-- And those with counts in range it passes.
+pub counts-admit : (sys : System) → CountedSystem sys → countsJudged sys ≡ Admitted
+unfolding countsJudged tableBreaks judgedBy offender offenderAt subsystemBreaks
+counts-admit sys c = rw (in-counts _ (c .subsystems-least) (c .subsystems-most), le-ltb most (sys .resources) (c .resources-most), nowhere) refl
+  where
+    in-counts : (n : ℕ) → 1 ≤ n → n ≤ most → countOut n ≡ false
+    in-counts n h k = rw (le-ltb n 1 h, le-ltb most n k) refl
+
+    nowhere : firstOf (offenderAt sys Counts) (subsystemCount sys) 0 ≡ none
+    nowhere =
+        firstOf-nowhere (offenderAt sys Counts) (subsystemCount sys) 0
+        (λ s l h.
+        let k : s < subsystemCount sys = omega arith in
+        ap (Option·map (place (s + 1))) (own-nowhere (sys .resources) Counts (no-task-counts (sys .resources)) (subsystemOf sys s) (in-counts _ (c .some-task s k) (c .tasks-most s k))))
+
+-- The same of a table's own counts.
+pub counted-table : (t : Table) → countsJudged (meaning t) ≡ Admitted → CountedTable t
+unfolding meaning
+counted-table t e =
+    record {
+      subsystems-least = rw (← count-of-subsystems t) (c .subsystems-least);
+      subsystems-most = rw (← count-of-subsystems t) (c .subsystems-most);
+      resources-most = c .resources-most;
+      some-task = λ s h. rw (← tasks s h) (c .some-task s (rw (count-of-subsystems t) h));
+      tasks-most = λ s h. rw (← tasks s h) (c .tasks-most s (rw (count-of-subsystems t) h));
+    }
+  where
+    c : CountedSystem (meaning t)
+    c = counted-system (meaning t) e
+
+    tasks : (s : ℕ) → s < t .count → taskCount (subsystemOf (meaning t) s) ≡ getD (t .subsystems) s pastSubsystems .count
+    tasks s h = ap taskCount (subsystem-of-slot t s h) ∙ count-of-tasks (t .resources) (getD (t .subsystems) s pastSubsystems)
+
+-- And of a grid's.
+pub counted-grid : (grid : List (List (List ℕ))) (n m : ℕ) → countsJudged (systemIn n m grid) ≡ Admitted → CountedGrid grid n m
+unfolding systemIn
+counted-grid grid n m e =
+    record {
+      subsystems-most = rw (← count-of-grid n m grid) (c .subsystems-most);
+      resources-most = c .resources-most;
+      counted = λ s h.
+          record {
+            some-task = rw (← tasks s h) (c .some-task s (rw (count-of-grid n m grid) h));
+            tasks-most = rw (← tasks s h) (c .tasks-most s (rw (count-of-grid n m grid) h));
+            resources-most = c .resources-most;
+          };
+    }
+  where
+    c : CountedSystem (systemIn n m grid)
+    c = counted-system (systemIn n m grid) e
+
+    tasks : (s : ℕ) → s < n → taskCount (subsystemOf (systemIn n m grid) s) ≡ countIn (blockIn grid s)
+    tasks s h = ap taskCount (subsystem-of-grid n m grid s h) ∙ count-of-block m (blockIn grid s)
+
+-- A grid has room for a table that rule 1 has passed, and what it means then, with the counts as the code hands them on.
+pub has-room : (t : Table) → countsJudged (meaning t) ≡ Admitted → HasRoom t
+has-room t e = let c = counted-table t e in record { subsystems-most = c .subsystems-most; resources-most = c .resources-most; tasks-most = c .tasks-most }
+
+pub laid-out-means :
+    (t : Table) (grid : List (List (List ℕ))) → systemIn (t .count) (t .resources) grid ≡ meaning t → (n m : ℕ) → n ≡ t .count → m ≡ t .resources →
+    systemIn n m grid ≡ meaning t
+laid-out-means t grid e n m p q = rw (p, q) e
 
 ------------------------------------------------------------------------
 -- One subsystem alone

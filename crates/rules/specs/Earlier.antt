@@ -1,9 +1,9 @@
--- The judgement by rules 2 to 5 in one pass over the places: of two refusals the one by the lower rule counts, and the former
--- where both are by the same rule. Assumes nothing.
+-- The judgement by rules 2 to 4 in one pass over the places: of two refusals the one by the lower rule counts, and the former
+-- where both are by the same rule. Rule 5 comes behind them. Assumes nothing.
 use Prim.Native.Nat.{ℕ}
-use mathlib.Core.Bool.{Bool, cond}
+use mathlib.Core.Bool.{Bool, false, cond}
 use mathlib.Core.Option.{Option, none, some, Option·map}
-use lib.Dec.{ltb}
+use lib.Dec.{ltb, eqb}
 use Rattle.table.specs.Meaning.{TaskM, SubsystemM}
 use Rattle.rules.specs.declared.Rule.{Rule}
 use Rattle.rules.specs.declared.Rule.the-variants.{Counts, Range, Order, Access, Overrun}
@@ -13,12 +13,16 @@ use Rattle.rules.specs.declared.Judged.the-variants.{Admitted, Refused}
 use Rattle.rules.specs.Refusal.{numberOf}
 use Rattle.rules.specs.Rules.{place, refusedAt, unlessRefused, subsystemBreaks, taskBreaks, offenderIn}
 
--- The first of rules 2 to 5, in their order, that found a place.
+-- The first of rules 2 to 4, in their order, that found a place.
 unfoldable pub inOrder : (Rule → Option Place) → Judged
 inOrder found =
     unlessRefused (refusedAt Range (found Range))
-    (unlessRefused (refusedAt Order (found Order))
-    (unlessRefused (refusedAt Access (found Access)) (refusedAt Overrun (found Overrun))))
+    (unlessRefused (refusedAt Order (found Order)) (refusedAt Access (found Access)))
+
+-- Whether a judgement is by rule 2, the first of them.
+abbrev pub isFirst : Judged → Bool
+isFirst Admitted = false
+isFirst (Refused k p) = eqb (numberOf k) 2
 
 -- Of two judgements the one by the lower rule; the former where both are by the same.
 abbrev pub earlier : Judged → Judged → Judged

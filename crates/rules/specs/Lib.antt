@@ -6,3 +6,4 @@ pub mod Admitted
 pub mod Exactly
 pub mod Slots
 pub mod Earlier
+pub mod Held

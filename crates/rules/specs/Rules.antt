@@ -91,6 +91,10 @@ judgedPastCounts sys =
     unlessRefused (judgedBy sys Range)
     (unlessRefused (judgedBy sys Order) (unlessRefused (judgedBy sys Access) (judgedBy sys Overrun)))
 
+-- The judgement by rule 1 alone: N and M, then each n.
+unfoldable pub countsJudged : System → Judged
+countsJudged sys = cond (tableBreaks sys) (Refused Counts (place 0 0)) (judgedBy sys Counts)
+
 -- The judgement. All of rule 1 comes first: N and M, then each n.
 unfoldable pub judgeOf : System → Judged
 judgeOf sys =

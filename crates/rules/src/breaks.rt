@@ -1,14 +1,21 @@
-// What one subsystem or one task breaks of one rule. The counts are the caller's to have judged by rule 1.
+// What is out of range or out of order, at one place. The counts are the caller's to have judged by rule 1.
 ghost use mathlib.Core.Path.{_≡_};
-ghost use Prim.Native.Nat.{_≤_};
-ghost use Rattle.table.specs.Limits.{most};
-ghost use Rattle.table.specs.Meaning.{subsystemM, taskM};
-ghost use Rattle.rules.specs.Rules.{countOut, timeOut, someAccessAbove, subsystemBreaks, taskBreaks};
-ghost use Rattle.rules.specs.Slots.{Counted};
-use crate::Rule;
-use table::Subsystem;
+ghost use mathlib.Core.Bool.{_||_};
+ghost use Prim.Native.Nat.{_≤_, _<_, max};
+ghost use lib.Dec.{ltb};
+ghost use Rattle.lists.specs.Range.{largestTo};
+ghost use Rattle.table.specs.Limits.{most, largest};
+ghost use Rattle.table.specs.Grid.{periodIn, budgetIn, separationIn, workIn, deadlineIn, accessIn};
+ghost use Rattle.rules.specs.Rules.{countOut, timeOut};
 use table::Table;
-use table::Task;
+use table::grid::BLOCK;
+use table::grid::LINE;
+use table::grid::access;
+use table::grid::budget;
+use table::grid::deadline;
+use table::grid::period;
+use table::grid::separation;
+use table::grid::work;
 
 // Whether a count is none of 1, 2, .., the most.
 pub fn count_out(n: u8) -> bool
@@ -31,69 +38,61 @@ pub fn time_out(x: u32) -> bool
     Table::LARGEST < x
 }
 
-// Whether one of the first m accesses is above the limit.
-pub fn some_access_above(task: Task, m: usize, limit: u32) -> bool
-    requires { ⌜ m ≤ most ⌝ }
-    ensures { λ r. ⌜ r ≡ someAccessAbove m limit (taskM m task) ⌝ }
+// Whether a subsystem's own times are out of range: rule 2.
+pub fn own_out_of_range(block: &[[u32; LINE]; BLOCK]) -> bool
+    ensures { λ r. ⌜ r ≡ (timeOut (periodIn (now (block .entry))) || timeOut (budgetIn (now (block .entry)))) ⌝ }
 {
+    if time_out(period(block)) {
+        return true;
+    }
+    time_out(budget(block))
+}
+
+// The longest access of task i to one of m resources.
+pub fn longest_of_task(block: &[[u32; LINE]; BLOCK], m: usize, i: usize) -> u32
+    requires { ⌜ (m ≤ most) × (i < most) ⌝ }
+    ensures { λ r. ⌜ r ≡ largestTo (accessIn (now (block .entry)) i) m ⌝ }
+{
+    let mut longest: u32 = 0;
     let mut l = 0;
     while l < m {
-        if limit < task.access[l] {
-            return true;
-        }
+        longest = longer(longest, access(block, i, l));
         l += 1;
     }
-    false
+    longest
 }
 
-// Whether a subsystem breaks the rule at its own place.
-pub fn subsystem_breaks(sub: Subsystem, m: usize, rule: Rule) -> bool
-    requires { ⌜ Counted sub m ⌝ }
-    ensures { λ r. ⌜ r ≡ subsystemBreaks m rule (subsystemM m sub) ⌝ }
+// The longer of two.
+fn longer(a: u32, b: u32) -> u32
+    ensures { λ r. ⌜ r ≡ max a b ⌝ }
 {
-    match rule {
-        Rule::Counts => count_out(sub.count),
-        Rule::Range => {
-            if time_out(sub.period) {
-                return true;
-            }
-            time_out(sub.budget)
-        }
-        Rule::Order => sub.period < sub.budget,
-        Rule::Access => false,
-        Rule::Overrun => {
-            let used = numbers::wide(sub.budget) + crate::holding::holding_time(sub, m);
-            numbers::wide(sub.period) < used
-        }
-    }
+    if a < b { b } else { a }
 }
 
-// Whether a task breaks the rule at its place.
-pub fn task_breaks(task: Task, m: usize, rule: Rule) -> bool
-    requires { ⌜ m ≤ most ⌝ }
-    ensures { λ r. ⌜ r ≡ taskBreaks m rule (taskM m task) ⌝ }
+// Whether a time of task i, or its longest access, is out of range: rule 2.
+pub fn task_out_of_range(block: &[[u32; LINE]; BLOCK], i: usize, longest: u32) -> bool
+    requires { ⌜ i < most ⌝ }
+    ensures { λ r. ⌜ r ≡ (timeOut (separationIn (now (block .entry)) i) || timeOut (workIn (now (block .entry)) i) || timeOut (deadlineIn (now (block .entry)) i) || ltb largest longest) ⌝ }
 {
-    match rule {
-        Rule::Counts => false,
-        Rule::Range => {
-            if time_out(task.separation) {
-                return true;
-            }
-            if time_out(task.work) {
-                return true;
-            }
-            if time_out(task.deadline) {
-                return true;
-            }
-            some_access_above(task, m, Table::LARGEST)
-        }
-        Rule::Order => {
-            if task.deadline < task.work {
-                return true;
-            }
-            task.separation < task.deadline
-        }
-        Rule::Access => some_access_above(task, m, task.work),
-        Rule::Overrun => false,
+    if time_out(separation(block, i)) {
+        return true;
     }
+    if time_out(work(block, i)) {
+        return true;
+    }
+    if time_out(deadline(block, i)) {
+        return true;
+    }
+    Table::LARGEST < longest
+}
+
+// Whether the times of task i are out of order: rule 3.
+pub fn task_out_of_order(block: &[[u32; LINE]; BLOCK], i: usize) -> bool
+    requires { ⌜ i < most ⌝ }
+    ensures { λ r. ⌜ r ≡ (ltb (deadlineIn (now (block .entry)) i) (workIn (now (block .entry)) i) || ltb (separationIn (now (block .entry)) i) (deadlineIn (now (block .entry)) i)) ⌝ }
+{
+    if deadline(block, i) < work(block, i) {
+        return true;
+    }
+    separation(block, i) < deadline(block, i)
 }

@@ -1,19 +1,25 @@
-// Rules 2 to 5 on one subsystem: each place is looked at once, and of what is found the lowest rule stands, at the first
-// place that breaks it. The counts are the caller's to have judged by rule 1.
+// Rules 2 to 4 on one subsystem, whose block is lent: each place is looked at once, and of what is found the lowest rule
+// stands, at the first place that breaks it. The counts are the caller's to have judged by rule 1.
 ghost use mathlib.Core.Path.{_≡_};
-ghost use Prim.Native.Nat.{_≤_};
+ghost use Prim.Native.Nat.{_≤_, _<_};
 ghost use Rattle.table.specs.Limits.{most};
-ghost use Rattle.table.specs.Meaning.{subsystemM, taskM};
-ghost use Rattle.rules.specs.Earlier.{earlier, judgedOwn, judgedTask, judgedSubsystem};
+ghost use Rattle.table.specs.Grid.{taskIn, subsystemIn};
+ghost use Rattle.rules.specs.Earlier.{earlier, isFirst, judgedOwn, judgedTask, judgedSubsystem};
 ghost use Rattle.rules.specs.Refusal.{numberOf};
 ghost use Rattle.rules.specs.Slots.{Counted};
 use crate::Judged;
 use crate::Place;
 use crate::Rule;
-use crate::breaks::subsystem_breaks;
-use crate::breaks::task_breaks;
-use table::Subsystem;
-use table::Task;
+use crate::breaks::longest_of_task;
+use crate::breaks::own_out_of_range;
+use crate::breaks::task_out_of_order;
+use crate::breaks::task_out_of_range;
+use table::grid::BLOCK;
+use table::grid::LINE;
+use table::grid::budget;
+use table::grid::count;
+use table::grid::period;
+use table::grid::work;
 
 // The number of a rule.
 pub fn rule_number(rule: Rule) -> u32
@@ -45,57 +51,98 @@ pub fn earlier(found: Judged, next: Judged) -> Judged
     }
 }
 
+// Whether a judgement is by rule 2: then none of the rules here can find an earlier one.
+pub fn is_first(found: Judged) -> bool
+    ensures { λ r. ⌜ r ≡ isFirst found ⌝ }
+{
+    match found {
+        Judged::Admitted => false,
+        Judged::Refused(rule, _) => rule_number(rule) == 2,
+    }
+}
+
 // The subsystem's own place, in the table's subsystem of this number.
-fn judged_own(sub: Subsystem, m: usize, subsystem: u8) -> Judged
-    requires { ⌜ Counted sub m ⌝ }
-    ensures { λ r. ⌜ r ≡ judgedOwn m subsystem (subsystemM m sub) ⌝ }
+fn judged_own(block: &[[u32; LINE]; BLOCK], m: usize, subsystem: u8) -> Judged
+    requires { ⌜ Counted (now block) m ⌝ }
+    ensures { λ r. ⌜ r ≡ judgedOwn m subsystem (subsystemIn m (now (block .entry))) ⌝ }
 {
     let place = Place { subsystem, task: 0 };
-    if subsystem_breaks(sub, m, Rule::Range) {
+    if own_out_of_range(block) {
         return Judged::Refused(Rule::Range, place);
     }
-    if subsystem_breaks(sub, m, Rule::Order) {
+    if period(block) < budget(block) {
         return Judged::Refused(Rule::Order, place);
-    }
-    if subsystem_breaks(sub, m, Rule::Overrun) {
-        return Judged::Refused(Rule::Overrun, place);
     }
     Judged::Admitted
 }
 
 // A task's place.
-fn judged_task(task: Task, m: usize, place: Place) -> Judged
-    requires { ⌜ m ≤ most ⌝ }
-    ensures { λ r. ⌜ r ≡ judgedTask m place (taskM m task) ⌝ }
+fn judged_task(block: &[[u32; LINE]; BLOCK], m: usize, i: usize, place: Place) -> Judged
+    requires { ⌜ (m ≤ most) × (i < most) ⌝ }
+    ensures { λ r. ⌜ r ≡ judgedTask m place (taskIn m (now (block .entry)) i) ⌝ }
 {
-    if task_breaks(task, m, Rule::Range) {
+    let longest = longest_of_task(block, m, i);
+    if task_out_of_range(block, i, longest) {
         return Judged::Refused(Rule::Range, place);
     }
-    if task_breaks(task, m, Rule::Order) {
+    if task_out_of_order(block, i) {
         return Judged::Refused(Rule::Order, place);
     }
-    if task_breaks(task, m, Rule::Access) {
+    if work(block, i) < longest {
         return Judged::Refused(Rule::Access, place);
     }
     Judged::Admitted
 }
 
-// All places of the subsystem of this number.
-pub fn judged_subsystem(sub: Subsystem, m: usize, subsystem: u8) -> Judged
-    requires { ⌜ Counted sub m ⌝ }
-    ensures { λ r. ⌜ r ≡ judgedSubsystem m subsystem (subsystemM m sub) ⌝ }
+// What was found so far, with a task's place. Behind a refusal by rule 2 nothing need be looked at.
+fn with_task(
+    found: Judged,
+    block: &[[u32; LINE]; BLOCK],
+    m: usize,
+    i: usize,
+    place: Place,
+) -> Judged
+    requires { ⌜ (m ≤ most) × (i < most) ⌝ }
+    ensures { λ r. ⌜ r ≡ earlier found (judgedTask m place (taskIn m (now (block .entry)) i)) ⌝ }
 {
-    let n = numbers::index(sub.count);
-    let mut found = judged_own(sub, m, subsystem);
+    if is_first(found) {
+        return found;
+    }
+    earlier(found, judged_task(block, m, i, place))
+}
+
+// All places of the subsystem of this number.
+pub fn judged_subsystem(block: &[[u32; LINE]; BLOCK], m: usize, subsystem: u8) -> Judged
+    requires { ⌜ Counted (now block) m ⌝ }
+    ensures { λ r. ⌜ r ≡ judgedSubsystem m subsystem (subsystemIn m (now (block .entry))) ⌝ }
+{
+    let n = count(block);
+    let mut found = judged_own(block, m, subsystem);
     let mut i = 0;
     while i < n {
-        let task = sub.tasks[i];
-        i += 1;
         let place = Place {
             subsystem,
-            task: i as u8,
+            task: (i + 1) as u8,
         };
-        found = earlier(found, judged_task(task, m, place));
+        found = with_task(found, block, m, i, place);
+        i += 1;
     }
     found
+}
+
+// What was found so far, with all places of the subsystem of this number. Behind a refusal by rule 2 nothing need be looked
+// at.
+pub fn with_subsystem(
+    found: Judged,
+    block: &[[u32; LINE]; BLOCK],
+    m: usize,
+    subsystem: u8,
+) -> Judged
+    requires { ⌜ Counted (now block) m ⌝ }
+    ensures { λ r. ⌜ r ≡ earlier found (judgedSubsystem m subsystem (subsystemIn m (now (block .entry)))) ⌝ }
+{
+    if is_first(found) {
+        return found;
+    }
+    earlier(found, judged_subsystem(block, m, subsystem))
 }

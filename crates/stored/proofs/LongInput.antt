@@ -3,31 +3,29 @@
 use Prim.Native.Nat.{ℕ, zero, suc, _+_, _*_, _-_, _≤_, _<_}
 use native.Mathlib.Nat.{mul-le-mul}
 use native.Mathlib.Omega.{arith}
-use borrow.Author.Tests.{lt-ltb, leb-true}
+use borrow.Author.Tests.{lt-ltb}
 use mathlib.Core.Path.{_≡_, refl, sym, ap, _∙_}
 use mathlib.Core.Logic.{⊎-elim}
-use mathlib.Core.Bool.{Bool, not, _&&_}
+use mathlib.Core.Bool.{Bool}
 use mathlib.Core.Option.{Option, none, some}
 use mathlib.Core.List.{List}
-use lib.Dec.{leb, eqb}
-use lib.ListN.{length, getD, take, drop, length-take}
+use lib.ListN.{length, take, drop, length-take}
 use lib.Seq.{take-all}
 use Rattle.lists.specs.Range.{orElse, firstOf}
 use Rattle.lists.proofs.First.{firstOf-ext, firstOf-none}
 use Rattle.lists.proofs.Over.{le-or-lt}
 use Rattle.table.specs.Limits.{most}
 use Rattle.table.specs.declared.Subsystem.{Subsystem}
-use Rattle.rules.specs.Rules.{countOut}
 use Rattle.stored.specs.declared.FieldAnswer.{FieldAnswer}
 use Rattle.stored.specs.declared.FieldAnswer.the-variants.{Sound, Faulty}
-use Rattle.stored.specs.Field.{fieldSize, valueOf, version, headerTag, headerLength, subsystemTag, subsystemLength, taskTag, taskLength}
+use Rattle.stored.specs.Field.{fieldSize, valueOf, headerTag, headerLength, subsystemTag, subsystemLength, taskTag, taskLength}
 use Rattle.stored.specs.Judge.{headerInRange, subsystemInRange, anyValue, judgeField, judgeHeader, judgeSubsystem}
 use Rattle.stored.specs.Decode.{decodedHeader, decodedSubsystem}
 use Rattle.stored.specs.File.{largestFile, enough}
 use Rattle.stored.specs.Read.{Refusal, refusedAt, headerIn, headAt, taskPlace, placeBehind, subsystemPlace, taskRefusal, tasksRefusal, refusalFrom, subsystemRefusal, leftOver, bodyRefusal, refusalIn, readOf}
-use Rattle.stored.proofs.Judging.{SoundField, sound-means}
+use Rattle.stored.proofs.Judging.{sound-means}
 use Rattle.stored.proofs.ReadTasks.{one-task-further}
-use Rattle.stored.proofs.ReadSubsystems.{count-in-range, and-left, and-right}
+use Rattle.stored.proofs.ReadSubsystems.{header-counts, head-count}
 use Rattle.stored.proofs.ReadWritten.{neither-refused, sound-where-unrefused, nothing-left-behind}
 use Rattle.stored.proofs.FirstBytes.{drop-of-take, value-of-first, judged-by-first-bytes}
 use Rattle.stored.proofs.MoreRange.{firstOf-until}
@@ -38,10 +36,6 @@ largestSubsystem = fieldSize subsystemLength + most * fieldSize (taskLength most
 
 ------------------------------------------------------------------------
 -- Counts in range keep the reader within the longest file
-
-head-count-within : (file : List ℕ) (at : ℕ) → SoundField subsystemTag subsystemLength subsystemInRange (drop at file) → headAt file at .count ≤ most
-unfolding headAt decodedSubsystem subsystemInRange
-head-count-within file at sound = count-in-range (headAt file at .count) (sound .ranged) .1
 
 tasks-within : (m at i : ℕ) → m ≤ most → i ≤ most → taskPlace m at i ≤ at + largestSubsystem
 unfolding taskPlace
@@ -99,7 +93,7 @@ module _ (file : List ℕ) where
         go (Sound n) e =
             rw (same, e, head-alike at (omega arith))
             (firstOf-ext (taskRefusal first m at) (taskRefusal file m at) (headAt file at .count) 0
-            (λ i l u. task-refused-alike at i h (omega (arith, head-count-within file at (sound-means subsystemTag subsystemLength subsystemInRange (drop at file) n e .1)))))
+            (λ i l u. task-refused-alike at i h (omega (arith, head-count file at (sound-means subsystemTag subsystemLength subsystemInRange (drop at file) n e .1) .1))))
 
     -- A subsystem that is not refused ends near, and at the same offset.
     behind-alike : (at : ℕ) → at + largestSubsystem ≤ enough → refusalFrom file m at ≡ none → (placeBehind file m at ≤ at + largestSubsystem) × (placeBehind first m at ≡ placeBehind file m at)
@@ -107,7 +101,7 @@ module _ (file : List ℕ) where
     behind-alike at h clean =
         let own = neither-refused (refusedAt at (judgeSubsystem (drop at file))) (tasksRefusal file m at) clean .0 in
         let sound = sound-where-unrefused subsystemTag subsystemLength at subsystemInRange (drop at file) own in (
-          tasks-within m at (headAt file at .count) few (head-count-within file at sound),
+          tasks-within m at (headAt file at .count) few (head-count file at sound .1),
           ap (λ (u : Subsystem). taskPlace m at (u .count)) (head-alike at (omega arith)),
         )
 
@@ -148,15 +142,6 @@ module _ (file : List ℕ) where
   header-judged-alike : judgeHeader first ≡ judgeHeader file
   header-judged-alike = judged-alike headerTag headerLength 0 headerInRange (omega arith)
 
-  header-counts-within : SoundField headerTag headerLength headerInRange file → (headerIn file .count ≤ most) × (headerIn file .resources ≤ most)
-  unfolding headerIn decodedHeader headerInRange
-  header-counts-within sound =
-      let v = valueOf headerLength file in
-      let counts = and-right (eqb (getD v 0 0) version) (not (countOut (getD v 1 0)) && leb (getD v 2 0) most) (sound .ranged) in (
-        count-in-range (getD v 1 0) (and-left (not (countOut (getD v 1 0))) (leb (getD v 2 0) most) counts) .1,
-        leb-true (getD v 2 0) most (and-right (not (countOut (getD v 1 0))) (leb (getD v 2 0) most) counts),
-      )
-
   refusals-alike : enough < length file → refusalIn first ≡ refusalIn file
   unfolding refusalIn
   refusals-alike long = go (judgeHeader file) refl
@@ -164,9 +149,9 @@ module _ (file : List ℕ) where
       go : (a : FieldAnswer) → judgeHeader file ≡ a → refusalIn first ≡ refusalIn file
       go (Faulty f) e = rw (header-judged-alike, e) refl
       go (Sound n) e =
-          let within = header-counts-within (sound-means headerTag headerLength headerInRange file n e .1) in
+          let within = header-counts file (sound-means headerTag headerLength headerInRange file n e .1) in
           rw (header-judged-alike, e, header-alike)
-          (body-refused-alike (headerIn file .resources) (within .1) (headerIn file .count) (within .0) long)
+          (body-refused-alike (headerIn file .resources) (within .2) (headerIn file .count) (within .1) long)
 
   -- A file that is not refused is no longer than the largest.
   pub read-is-no-longer : refusalIn file ≡ none → length file ≤ largestFile
@@ -175,10 +160,10 @@ module _ (file : List ℕ) where
       let M = headerIn file .resources in
       let N = headerIn file .count in
       let parts = neither-refused (refusedAt 0 (judgeHeader file)) (bodyRefusal file M N) clean in
-      let within = header-counts-within (sound-where-unrefused headerTag headerLength 0 headerInRange file (parts .0)) in
+      let within = header-counts file (sound-where-unrefused headerTag headerLength 0 headerInRange file (parts .0)) in
       let body = neither-refused (firstOf (subsystemRefusal file M) N 0) (leftOver file (subsystemPlace file M N)) (parts .1) in
-      let p = places-alike M (within .1) N (within .0) (λ y l. firstOf-none (subsystemRefusal file M) N 0 (body .0) y (omega arith) (omega arith)) in
-      omega (arith, p .0, within .0, nothing-left-behind file (subsystemPlace file M N) (body .1))
+      let p = places-alike M (within .2) N (within .1) (λ y l. firstOf-none (subsystemRefusal file M) N 0 (body .0) y (omega arith) (omega arith)) in
+      omega (arith, p .0, within .1, nothing-left-behind file (subsystemPlace file M N) (body .1))
 
 -- Reading the first 4,096 bytes of any input gives what reading all of it gives: answer, place and table.
 pub first-bytes-suffice : (input : List ℕ) → readOf (take enough input) ≡ readOf input

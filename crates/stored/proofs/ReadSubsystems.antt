@@ -1,4 +1,4 @@
--- The reader at the subsystems and at the header: what it knows before each, and what a judgement makes of that.
+-- The reader at the subsystems: what it knows before each, and what a judgement makes of that; and counts in range.
 -- Assumes nothing.
 use Prim.Native.Nat.{ℕ, _+_, _-_, _≤_, _<_}
 use native.Mathlib.Nat.{sub-zero}
@@ -6,18 +6,21 @@ use native.Mathlib.Numerals.{add-one}
 use native.Mathlib.Omega.{arith}
 use borrow.Author.Tests.{lt-ltb, le-ltb, leb-true, not-true}
 use mathlib.Core.Path.{_≡_, refl, sym, ap, _∙_}
+use mathlib.Core.Logic.{_≢_, _⊎_, inl, inr}
 use mathlib.Core.Bool.{Bool, true, false, not, _&&_}
 use mathlib.Core.Option.{Option, none, some, Option·some-ne-none}
-use mathlib.Core.List.{List}
+use mathlib.Core.List.{List, []}
 use lib.Dec.{leb, eqb}
 use lib.ListN.{length, drop, set, getD}
-use Rattle.lists.specs.Range.{orElse, firstOf}
+use Rattle.lists.specs.Range.{orElse, firstOf, upTo}
+use Rattle.lists.proofs.Over.{le-or-lt}
+use Rattle.lists.proofs.Filled.{Filled, filled-none, filled-at, filled-more}
 use Rattle.lists.proofs.First.{firstOf-here, firstOf-next, firstOf-over}
-use Rattle.lists.proofs.UpTo.{padded-set, padded-none}
+use Rattle.lists.proofs.UpTo.{upTo-ext}
 use Rattle.table.specs.Limits.{most}
-use Rattle.table.specs.Zeros.{zeroSubsystem, zeroTable}
-use Rattle.table.specs.declared.Subsystem.{Subsystem}
-use Rattle.table.specs.declared.Table.{Table}
+use Rattle.table.specs.Meaning.{subsystemM, subsystemAt, meaning}
+use Rattle.table.specs.Grid.{subsystemIn, subsystemAtBlock, blockIn, systemIn, HasLines, HasBlocks}
+use Rattle.table.proofs.GridLaws.{blocks-kept}
 use Rattle.rules.specs.Rules.{countOut}
 use Rattle.rules.proofs.OrderLaws.{in-range}
 use Rattle.stored.specs.declared.Fault.{Fault}
@@ -26,14 +29,14 @@ use Rattle.stored.specs.declared.FieldAnswer.{FieldAnswer}
 use Rattle.stored.specs.declared.FieldAnswer.the-variants.{Sound, Faulty}
 use Rattle.stored.specs.declared.ReadAnswer.{ReadAnswer}
 use Rattle.stored.specs.declared.ReadAnswer.the-variants.{Whole, Refused}
-use Rattle.stored.specs.declared.Reading.{Reading}
-use Rattle.stored.specs.declared.SubsystemReading.{SubsystemReading}
+use Rattle.stored.specs.declared.Part.{Part}
 use Rattle.stored.specs.Field.{fieldSize, valueOf, headerTag, headerLength, subsystemTag, subsystemLength, version}
-use Rattle.stored.specs.Judge.{headerInRange, subsystemInRange, judgeHeader, judgeSubsystem}
-use Rattle.stored.specs.Decode.{decodedHeader, decodedSubsystem}
-use Rattle.stored.specs.Read.{Refusal, refusedAt, wholeUnless, readingOf, headerIn, headAt, taskPlace, placeBehind, subsystemPlace, tasksRefusal, refusalFrom, subsystemRefusal, leftOver, bodyRefusal, refusalIn, subsystemFrom, subsystemRead, tableTo, tableIn, IsReading, readOf}
-use Rattle.stored.proofs.Judging.{sound-length, sound-whole, sound-value, sound-means}
-use Rattle.stored.proofs.ReadTasks.{partFrom, part-to-the-end, whole-within}
+use Rattle.stored.specs.Judge.{headerInRange, subsystemInRange, judgeSubsystem}
+use Rattle.stored.specs.Decode.{decodedHeader, decodedSubsystem, HeadLine}
+use Rattle.stored.specs.Read.{Refusal, refusedAt, wholeUnless, headerIn, headAt, taskPlace, placeBehind, subsystemPlace, tasksRefusal, refusalFrom, subsystemRefusal, leftOver, bodyRefusal, subsystemFrom, subsystemRead, tableTo, tableIn, IsPart, IsBody}
+use Rattle.stored.proofs.Judging.{SoundField, sound-length, sound-whole, sound-value, sound-means}
+use Rattle.stored.proofs.ReadMeaning.{subsystem-of-reading}
+use Rattle.stored.proofs.ReadTasks.{partFrom, part-to-the-end, whole-within, first-task-stands}
 
 ------------------------------------------------------------------------
 -- What an answer says of the refusal behind it
@@ -49,6 +52,9 @@ refused-is-some (some r) f p e =
     let ep : r .1 ≡ p = cc in
     λ i. some (ef i, ep i)
 
+pub refused-is-not-whole : (f : Fault) (p : ℕ) → Refused f p ≢ Whole
+refused-is-not-whole f p e = let z : _≡_ {A = ℕ} 0 1 = cc in absurd (omega arith)
+
 ------------------------------------------------------------------------
 -- Counts in range
 
@@ -63,6 +69,37 @@ and-right false b e = let z : _≡_ {A = ℕ} 0 1 = cc in absurd (omega arith)
 pub count-in-range : (n : ℕ) → not (countOut n) ≡ true → (1 ≤ n) × (n ≤ most)
 count-in-range n e = in-range n (not-true (countOut n) e)
 
+-- N and M of a header that is sound, and n of a subsystem's field that is.
+pub header-counts : (file : List ℕ) → SoundField headerTag headerLength headerInRange file → (1 ≤ headerIn file .count) × (headerIn file .count ≤ most) × (headerIn file .resources ≤ most)
+unfolding headerIn decodedHeader headerInRange
+header-counts file sound =
+    let v = valueOf headerLength file in
+    let both = and-right (eqb (getD v 0 0) version) (not (countOut (getD v 1 0)) && leb (getD v 2 0) most) (sound .ranged) in
+    let n = count-in-range (getD v 1 0) (and-left (not (countOut (getD v 1 0))) (leb (getD v 2 0) most) both) in
+    (n .0, n .1, leb-true (getD v 2 0) most (and-right (not (countOut (getD v 1 0))) (leb (getD v 2 0) most) both))
+
+pub head-count : (file : List ℕ) (at : ℕ) → SoundField subsystemTag subsystemLength subsystemInRange (drop at file) → (1 ≤ headAt file at .count) × (headAt file at .count ≤ most)
+unfolding headAt decodedSubsystem subsystemInRange
+head-count file at sound = count-in-range (headAt file at .count) (sound .ranged)
+
+------------------------------------------------------------------------
+-- A grid whose blocks mean the subsystems that are read means the table that is read
+
+grid-is-read : (file : List ℕ) (n m : ℕ) (grid : List (List (List ℕ))) → n ≡ headerIn file .count → m ≡ headerIn file .resources → ((q : ℕ) → q < n → subsystemIn m (blockIn grid q) ≡ subsystemM m (subsystemRead file m q)) → systemIn n m grid ≡ meaning (tableIn file)
+unfolding systemIn meaning tableIn tableTo subsystemAtBlock subsystemRead
+grid-is-read file n m grid count resources read = λ x. record { resources = resources x; subsystems = all x }
+  where
+    each : (q : ℕ) → q < n → subsystemAtBlock m grid q ≡ subsystemAt (tableIn file) q
+    each q k =
+        read q k ∙
+        ap (λ (l : ℕ). subsystemM l (subsystemRead file l q)) resources ∙
+        sym (subsystem-of-reading file q (omega (arith, count, k)))
+
+    all : upTo (subsystemAtBlock m grid) n ≡ upTo (subsystemAt (tableIn file)) (headerIn file .count)
+    all =
+        upTo-ext (subsystemAtBlock m grid) (subsystemAt (tableIn file)) n each ∙
+        ap (upTo (subsystemAt (tableIn file))) count
+
 ------------------------------------------------------------------------
 -- At a subsystem: its own field, and then its tasks
 
@@ -71,115 +108,112 @@ module _ (file : List ℕ) (m at : ℕ) (a : FieldAnswer) (within : at ≤ lengt
   refusal-of-field = ap (refusedAt at) (sym (judged ∙ ap judgeSubsystem (part-to-the-end file at)))
 
   -- A field that is refused ends the reading there.
-  pub subsystem-stops : (f : Fault) (r : ReadAnswer) (u : Subsystem) → a ≡ Faulty f → r ≡ wholeUnless (refusedAt at a) → IsReading (refusalFrom file m at) file m at (record { answer = r; subsystem = u; next = at })
+  pub subsystem-stops : (f : Fault) (r : ReadAnswer) (block : List (List ℕ)) → HasLines block → a ≡ Faulty f → r ≡ wholeUnless (refusedAt at a) → IsPart (refusalFrom file m at) file m at block (record { answer = r; next = at })
   unfolding refusalFrom
-  subsystem-stops f r u e q =
+  subsystem-stops f r block lines e q =
       let stop : refusalFrom file m at ≡ some (f, at) = ap (λ (o : Option Refusal). orElse o (tasksRefusal file m at)) (refusal-of-field ∙ ap (refusedAt at) e) in
       record {
-        answer = rw stop (q ∙ ap (λ (b : FieldAnswer). wholeUnless (refusedAt at b)) e);
-        subsystem = λ z. absurd (Option·some-ne-none (f, at) (sym stop ∙ z));
-        next = λ z. absurd (Option·some-ne-none (f, at) (sym stop ∙ z));
+        answer-is = rw stop (q ∙ ap (λ (b : FieldAnswer). wholeUnless (refusedAt at b)) e);
+        lines = lines;
+        means = λ z. absurd (Option·some-ne-none (f, at) (sym stop ∙ z));
+        next-is = λ z. absurd (Option·some-ne-none (f, at) (sym stop ∙ z));
         within = within;
       }
 
   module _ (k : ℕ) (sound : a ≡ Sound k) where
     -- A field that is sound leaves the tasks to decide.
-    pub tasks-decide : (r : SubsystemReading) → IsReading (tasksRefusal file m at) file m at r → IsReading (refusalFrom file m at) file m at r
+    pub tasks-decide : (block : List (List ℕ)) (r : Part) → IsPart (tasksRefusal file m at) file m at block r → IsPart (refusalFrom file m at) file m at block r
     unfolding refusalFrom
-    tasks-decide r i =
+    tasks-decide block r i =
         let go : refusalFrom file m at ≡ tasksRefusal file m at = ap (λ (o : Option Refusal). orElse o (tasksRefusal file m at)) (refusal-of-field ∙ ap (refusedAt at) sound) in
         rw go i
 
-    pub head-is-read : (v : List ℕ) (u : Subsystem) → v ≡ valueOf k (partFrom file at) → u ≡ decodedSubsystem v → u ≡ headAt file at
+    pub head-is-read : (v line : List ℕ) → v ≡ valueOf k (partFrom file at) → HeadLine (decodedSubsystem v) line → HeadLine (headAt file at) line
     unfolding headAt
-    head-is-read v u w d =
-        d ∙
-        ap decodedSubsystem
-        (sound-value subsystemTag subsystemLength subsystemInRange (partFrom file at) a k judged sound v w ∙
-        ap (valueOf subsystemLength) (part-to-the-end file at))
+    head-is-read v line w d =
+        let value = sound-value subsystemTag subsystemLength subsystemInRange (partFrom file at) a k judged sound v w ∙ ap (valueOf subsystemLength) (part-to-the-end file at) in
+        rw (← value) d
 
-    pub tasks-in-range : (u : Subsystem) → u ≡ headAt file at → (1 ≤ u .count) × (u .count ≤ most)
-    unfolding headAt decodedSubsystem subsystemInRange
-    tasks-in-range u e =
-        let s = sound-means subsystemTag subsystemLength subsystemInRange (drop at file) k (sym (judged ∙ ap judgeSubsystem (part-to-the-end file at)) ∙ sound) in
-        rw e (count-in-range (headAt file at .count) (s .1 .ranged))
+    pub tasks-in-range : headAt file at .count ≤ most
+    tasks-in-range =
+        head-count file at
+        (sound-means subsystemTag subsystemLength subsystemInRange (drop at file) k
+        (sym (judged ∙ ap judgeSubsystem (part-to-the-end file at)) ∙ sound)
+        .1)
+        .1
 
-    pub first-task-stands : at + fieldSize k ≡ taskPlace m at 0
-    unfolding taskPlace
-    first-task-stands =
-        omega (arith, sound-length subsystemTag subsystemLength subsystemInRange (partFrom file at) a k judged sound)
-
-    pub first-task-within : at + fieldSize k ≤ length file
+    pub first-task-within : taskPlace m at 0 ≤ length file
     first-task-within =
-        whole-within file at k within
-        (sound-whole subsystemTag subsystemLength subsystemInRange (partFrom file at) a k judged sound)
+        omega (
+          arith,
+          first-task-stands m at,
+          sound-length subsystemTag subsystemLength subsystemInRange (partFrom file at) a k judged sound,
+          whole-within file at k within
+              (sound-whole subsystemTag subsystemLength subsystemInRange (partFrom file at) a k judged sound),
+        )
 
 ------------------------------------------------------------------------
 -- What the reader knows before it judges subsystem s of n, at its place
 
--- The table with other subsystems.
-abbrev pub withSubsystems : Table → List Subsystem → Table
-withSubsystems t us = record { count = t .count; resources = t .resources; subsystems = us }
+abbrev BlockRead : List ℕ → ℕ → ℕ → List (List ℕ) → Type 0
+BlockRead file m s block = subsystemIn m block ≡ subsystemM m (subsystemRead file m s)
 
-pub record SubsystemsTo (file : List ℕ) (m n s place : ℕ) (t : Table) : Type 0 where
+pub record SubsystemsTo (file : List ℕ) (m n s place : ℕ) (grid : List (List (List ℕ))) : Type 0 where
   pub passed : s ≤ n
   pub here : place ≡ subsystemPlace file m s
   pub within : place ≤ length file
-  pub read : t ≡ tableTo file s
+  pub blocks : HasBlocks grid
+  pub read : Filled [] (BlockRead file m) 0 grid s
   pub left : firstOf (subsystemRefusal file m) n 0 ≡ firstOf (subsystemRefusal file m) (n - s) s
 
-no-subsystems-yet : (file : List ℕ) → headerIn file ≡ tableTo file 0
-unfolding tableTo headerIn decodedHeader
-no-subsystems-yet file =
-    ap (withSubsystems (headerIn file))
-    (sym (padded-none (subsystemRead file (headerIn file .resources)) zeroSubsystem most))
-
-one-subsystem-more : (file : List ℕ) (s : ℕ) (t : Table) (u : Subsystem) → t ≡ tableTo file s → u ≡ subsystemRead file (headerIn file .resources) s → s < most → withSubsystems t (set (t .subsystems) s u) ≡ tableTo file (s + 1)
-unfolding tableTo
-one-subsystem-more file s t u e f h =
-    rw (e, f)
-    (ap (withSubsystems (tableTo file s))
-    (padded-set (subsystemRead file (headerIn file .resources)) zeroSubsystem most s h))
-
-pub subsystems-begin : (file : List ℕ) (first : ℕ) (head : Table) → head ≡ headerIn file → first ≡ subsystemPlace file (head .resources) 0 → first ≤ length file → SubsystemsTo file (head .resources) (head .count) 0 first head
-subsystems-begin file first head e here h =
+pub subsystems-begin : (file : List ℕ) (m n : ℕ) (grid : List (List (List ℕ))) → subsystemPlace file m 0 ≤ length file → HasBlocks grid → SubsystemsTo file m n 0 (fieldSize headerLength) grid
+unfolding subsystemPlace
+subsystems-begin file m n grid h blocks =
     record {
       passed = omega arith;
-      here = here;
+      here = refl;
       within = h;
-      read = e ∙ no-subsystems-yet file;
+      blocks = blocks;
+      read = filled-none [] (BlockRead file m) 0 grid;
       left = rw sub-zero refl;
     }
 
-module _ (file : List ℕ) (m n s place : ℕ) (t : Table) (to : SubsystemsTo file m n s place t) where
-  module _ (below : s < n) (r : SubsystemReading) (reading : IsReading (refusalFrom file m place) file m place r) where
+module _ (file : List ℕ) (m n s place : ℕ) (grid : List (List (List ℕ))) (to : SubsystemsTo file m n s place grid) where
+  module _ (below : s < n) (fits : n ≤ most) (block : List (List ℕ)) (r : Part) (reading : IsPart (refusalFrom file m place) file m place block r) where
     refusal-of-subsystem : subsystemRefusal file m s ≡ refusalFrom file m place
     unfolding subsystemRefusal
     refusal-of-subsystem = ap (refusalFrom file m) (sym (to .here))
 
-    -- A subsystem that is refused ends the reading there, with a table of zeros.
-    pub subsystems-stop : (f : Fault) (p : ℕ) (z u : Table) → r .answer ≡ Refused f p → z ≡ zeroTable → _≡_ {A = Reading} (record { answer = r .answer; table = z }) (readingOf (bodyRefusal file m n) u)
+    still-blocks : HasBlocks (set grid s block)
+    still-blocks = blocks-kept grid s block (omega arith) (to .blocks) (reading .lines)
+
+    -- A subsystem that is refused ends the reading there.
+    pub subsystems-stop : (f : Fault) (p : ℕ) → r .answer ≡ Refused f p → IsBody file n m (set grid s block) (r .answer)
     unfolding bodyRefusal
-    subsystems-stop f p z u e q =
-        let stop : subsystemRefusal file m s ≡ some (f, p) = refusal-of-subsystem ∙ refused-is-some (refusalFrom file m place) f p (sym (reading .answer) ∙ e) in
+    subsystems-stop f p e =
+        let stop : subsystemRefusal file m s ≡ some (f, p) = refusal-of-subsystem ∙ refused-is-some (refusalFrom file m place) f p (sym (reading .answer-is) ∙ e) in
         let all : firstOf (subsystemRefusal file m) n 0 ≡ some (f, p) = to .left ∙ firstOf-here (subsystemRefusal file m) n s (f, p) below stop in
-        rw (e, q, all) refl
+        record {
+          answer-is = rw all e;
+          blocks = still-blocks;
+          means = λ z. absurd (refused-is-not-whole f p (sym e ∙ z));
+        }
+
+    block-is-read : refusalFrom file m place ≡ none → subsystemIn m block ≡ subsystemM m (subsystemRead file m s)
+    unfolding subsystemRead
+    block-is-read o = reading .means o ∙ ap (λ (p : ℕ). subsystemM m (subsystemFrom file m p)) (to .here)
 
     -- A subsystem that is whole is read, and the next one stands behind it.
-    pub subsystems-go-on : r .answer ≡ Whole → m ≡ headerIn file .resources → n ≤ most → SubsystemsTo file m n (s + 1) (r .next) (withSubsystems t (set (t .subsystems) s (r .subsystem)))
-    unfolding subsystemPlace subsystemRead
-    subsystems-go-on e resources h =
-        let o = whole-is-unrefused (refusalFrom file m place) (sym (reading .answer) ∙ e) in
+    pub subsystems-go-on : r .answer ≡ Whole → SubsystemsTo file m n (s + 1) (r .next) (set grid s block)
+    unfolding subsystemPlace
+    subsystems-go-on e =
+        let o = whole-is-unrefused (refusalFrom file m place) (sym (reading .answer-is) ∙ e) in
         record {
           passed = omega arith;
-          here = rw add-one (reading .next o ∙ ap (placeBehind file m) (to .here));
+          here = rw add-one (reading .next-is o ∙ ap (placeBehind file m) (to .here));
           within = reading .within;
-          read =
-              one-subsystem-more file s t (r .subsystem) (to .read)
-              (reading .subsystem o ∙
-              ap (subsystemFrom file m) (to .here) ∙
-              ap (λ (k : ℕ). subsystemFrom file k (subsystemPlace file k s)) resources)
-              (omega arith);
+          blocks = still-blocks;
+          read = filled-more [] (BlockRead file m) 0 grid s s block (omega arith) (omega (arith, to .blocks .blocks)) (to .read) (block-is-read o);
           left = to .left ∙ firstOf-next (subsystemRefusal file m) n s below (refusal-of-subsystem ∙ o);
         }
 
@@ -192,66 +226,21 @@ module _ (file : List ℕ) (m n s place : ℕ) (t : Table) (to : SubsystemsTo fi
         (ap (leftOver file) (sym (to .here ∙ ap (subsystemPlace file m) all)))
 
     -- Behind the last subsystem, bytes that are left are refused at the first of them.
-    pub left-over-stops : (z u : Table) → place < length file → z ≡ zeroTable → _≡_ {A = Reading} (record { answer = Refused LeftOver place; table = z }) (readingOf (bodyRefusal file m n) u)
+    pub left-over-stops : place < length file → IsBody file n m grid (Refused LeftOver place)
     unfolding leftOver
-    left-over-stops z u more q =
-        rw (q, body-is-left-over, lt-ltb place (length file) more) refl
+    left-over-stops more =
+        record {
+          answer-is = rw (body-is-left-over, lt-ltb place (length file) more) refl;
+          blocks = to .blocks;
+          means = λ z. absurd (refused-is-not-whole LeftOver place z);
+        }
 
-    -- Where nothing is left the table is read.
-    pub subsystems-end : length file ≤ place → n ≡ headerIn file .count → _≡_ {A = Reading} (record { answer = Whole; table = t }) (readingOf (bodyRefusal file m n) (tableIn file))
-    unfolding leftOver tableIn
-    subsystems-end done count =
-        let all : s ≡ headerIn file .count = omega (arith, to .passed) in
-        rw (body-is-left-over, le-ltb place (length file) done, to .read, all) refl
-
-------------------------------------------------------------------------
--- At the header
-
-module _ (file : List ℕ) (a : FieldAnswer) (judged : a ≡ judgeHeader (partFrom file 0)) where
-  header-judged : a ≡ judgeHeader file
-  header-judged = judged ∙ ap judgeHeader (part-to-the-end file 0)
-
-  -- A header that is refused ends the reading there.
-  pub header-stops : (f : Fault) (r : ReadAnswer) (z : Table) → a ≡ Faulty f → r ≡ wholeUnless (refusedAt 0 a) → z ≡ zeroTable → _≡_ {A = Reading} (record { answer = r; table = z }) (readOf file)
-  unfolding readOf refusalIn
-  header-stops f r z e q w =
-      let stop : refusedAt 0 (judgeHeader file) ≡ some (f, 0) = ap (refusedAt 0) (sym header-judged ∙ e) in
-      rw (q, w, e, stop) refl
-
-  module _ (k : ℕ) (sound : a ≡ Sound k) where
-    pub body-decides : (head : Table) → head ≡ headerIn file → (r : Reading) → r ≡ readingOf (bodyRefusal file (head .resources) (head .count)) (tableIn file) → r ≡ readOf file
-    unfolding readOf refusalIn
-    body-decides head h r e =
-        let go : refusedAt 0 (judgeHeader file) ≡ none = ap (refusedAt 0) (sym header-judged ∙ sound) in
-        rw go (e ∙ ap (λ (t : Table). readingOf (bodyRefusal file (t .resources) (t .count)) (tableIn file)) h)
-
-    pub header-is-read : (v : List ℕ) (t : Table) → v ≡ valueOf k (partFrom file 0) → t ≡ decodedHeader v → t ≡ headerIn file
-    unfolding headerIn
-    header-is-read v t w d =
-        d ∙
-        ap decodedHeader
-        (sound-value headerTag headerLength headerInRange (partFrom file 0) a k judged sound v w ∙
-        ap (valueOf headerLength) (part-to-the-end file 0))
-
-    pub counts-in-range : (t : Table) → t ≡ headerIn file → (t .count ≤ most) × (t .resources ≤ most)
-    unfolding headerIn decodedHeader headerInRange
-    counts-in-range t e =
-        let s = sound-means headerTag headerLength headerInRange file k (sym header-judged ∙ sound) in
-        let v = valueOf headerLength file in
-        let rest = and-right (eqb (getD v 0 0) version) (not (countOut (getD v 1 0)) && leb (getD v 2 0) most) (s .1 .ranged) in
-        rw e (
-          count-in-range (getD v 1 0) (and-left (not (countOut (getD v 1 0))) (leb (getD v 2 0) most) rest) .1,
-          leb-true (getD v 2 0) most (and-right (not (countOut (getD v 1 0))) (leb (getD v 2 0) most) rest),
-        )
-
-    pub first-subsystem-stands : (m : ℕ) → fieldSize k ≡ subsystemPlace file m 0
-    unfolding subsystemPlace
-    first-subsystem-stands m = ap fieldSize (sound-length headerTag headerLength headerInRange (partFrom file 0) a k judged sound)
-
-    pub first-subsystem-within : fieldSize k ≤ length file
-    first-subsystem-within =
-        omega (
-          arith,
-          sound-whole headerTag headerLength headerInRange (partFrom file 0) a k judged sound,
-          ap length (part-to-the-end file 0),
-        )
+    -- Where nothing is left the grid means what the file's table does.
+    pub subsystems-end : length file ≤ place → n ≡ headerIn file .count → m ≡ headerIn file .resources → IsBody file n m grid Whole
+    unfolding leftOver
+    subsystems-end done count resources =
+        record {
+          answer-is = rw (body-is-left-over, le-ltb place (length file) done) refl;
+          blocks = to .blocks;
+          means = λ z. grid-is-read file n m grid count resources (λ q k. filled-at [] (BlockRead file m) 0 grid s q q (omega arith) (to .read) (omega arith));
+        }

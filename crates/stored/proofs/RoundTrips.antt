@@ -17,6 +17,8 @@ use Rattle.table.specs.declared.Table.{Table}
 use Rattle.table.specs.Meaning.{System, pastSubsystems, subsystemAt, meaning, MeanTheSame}
 use Rattle.rules.specs.declared.Judged.{Judged}
 use Rattle.rules.specs.declared.Judged.the-variants.{Admitted, Refused}
+use Rattle.rules.specs.Rules.{countsJudged}
+use Rattle.rules.proofs.OrderLaws.{counted-table}
 use Rattle.stored.specs.declared.Fault.{Fault}
 use Rattle.stored.specs.declared.Fault.the-variants.{Short}
 use Rattle.stored.specs.declared.ReadAnswer.the-variants.{Whole, Refused as RefusedFile}
@@ -26,11 +28,10 @@ use Rattle.stored.specs.Field.{fieldSize, headerLength}
 use Rattle.stored.specs.File.{subsystemBytes, fileOf, largestFile}
 use Rattle.stored.specs.Judge.{judgeField}
 use Rattle.stored.specs.Read.{Refusal, refusalIn, wholeUnless, zerosIf, tableIn, readOf}
-use Rattle.stored.specs.Write.{written, countsJudged, answerFor, writeOf, bufferAfter}
+use Rattle.stored.specs.Write.{written, answerFor, writeOf, bufferAfter}
 use Rattle.stored.specs.Held.{Held}
 use Rattle.stored.proofs.ReadSubsystems.{whole-is-unrefused}
 use Rattle.stored.proofs.FileLaws.{flatMap-none, flatMap-one-more, length-file-parts, length-subsystemBytes}
-use Rattle.stored.proofs.CountLaws.{counted}
 use Rattle.stored.proofs.WrittenRead.{written-is-unrefused, written-means-the-same}
 use Rattle.stored.proofs.ReadWritten.{read-is-its-file}
 use Rattle.stored.proofs.LongInput.{read-is-no-longer}
@@ -88,9 +89,9 @@ read-then-written-is-the-same-file file buf n bytes e w =
 pub file-reads-as-the-same-meaning : (t : Table) → Held (meaning t) → countsJudged (meaning t) ≡ Admitted → (readOf (fileOf (meaning t)) .answer ≡ Whole) × MeanTheSame (readOf (fileOf (meaning t)) .table) t
 unfolding MeanTheSame
 file-reads-as-the-same-meaning t held counts =
-    let c = counted t counts in
-    let r = unrefused-is-whole (fileOf (meaning t)) (written-is-unrefused t (c .0) (c .1)) in
-    (r .0, ap meaning (r .1) ∙ written-means-the-same t (c .0) (c .1) held)
+    let c = counted-table t counts in
+    let r = unrefused-is-whole (fileOf (meaning t)) (written-is-unrefused t (c .subsystems-least) c) in
+    (r .0, ap meaning (r .1) ∙ written-means-the-same t (c .subsystems-least) c held)
 
 -- A table that is written reads back as one that means the same; the read refuses nothing that was written.
 pub written-then-read-means-the-same : (t : Table) (buf : List ℕ) (n : ℕ) → Held (meaning t) → writeOf (meaning t) (length buf) ≡ Written n → (readOf (take n (bufferAfter (meaning t) buf)) .answer ≡ Whole) × MeanTheSame (readOf (take n (bufferAfter (meaning t) buf)) .table) t
@@ -149,7 +150,7 @@ empty-file-is-short-at-0 = refl
 -- No file that is written is longer than 3,110 bytes.
 pub no-file-is-longer : (t : Table) → countsJudged (meaning t) ≡ Admitted → length (fileOf (meaning t)) ≤ largestFile
 no-file-is-longer t counts =
-    let c = counted t counts in read-is-no-longer (fileOf (meaning t)) (written-is-unrefused t (c .0) (c .1))
+    let c = counted-table t counts in read-is-no-longer (fileOf (meaning t)) (written-is-unrefused t (c .subsystems-least) c)
 
 -- A table with every count at its most has a file of 3,110 bytes.
 module _ (t : Table) (n : t .count ≡ most) (m : t .resources ≡ most) (tasks : (s : ℕ) → s < most → getD (t .subsystems) s pastSubsystems .count ≡ most) where

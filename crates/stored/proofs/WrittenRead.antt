@@ -104,9 +104,8 @@ module _ (t : Table) (some : 1 ≤ t .count) (counts : CountedTable t) where
     head-is-sound : judgeSubsystem (drop (place s) file) ≡ Sound subsystemLength
     unfolding subsystemInRange
     head-is-sound =
-        let c = counts .counted s h in
         field-judged file (place s) subsystemTag subsystemLength head (length-subsystemValue (slot s .period) (slot s .budget) (slot s .count)) head-stands subsystemInRange (omega arith)
-        (rw (count-of-value (slot s .period) (slot s .budget) (slot s .count)) (count-passes (slot s .count) (c .some-task) (c .tasks-most)))
+        (rw (count-of-value (slot s .period) (slot s .budget) (slot s .count)) (count-passes (slot s .count) (counts .some-task s h) (counts .tasks-most s h)))
 
     task-is-sound : (i : ℕ) → i < slot s .count → judgeTask (t .resources) (drop (taskPlace (t .resources) (place s) i) file) ≡ Sound (taskLength (t .resources))
     unfolding taskField taskAt anyValue

@@ -4,6 +4,7 @@ pub mod Field
 pub mod Judge
 pub mod Decode
 pub mod Read
+pub mod Taken
 pub mod File
 pub mod Write
 pub mod Held

@@ -10,7 +10,7 @@ use Rattle.rules.specs.declared.Rule.the-variants.{Counts}
 use Rattle.rules.specs.declared.Judged.{Judged}
 use Rattle.rules.specs.declared.Judged.the-variants.{Admitted, Refused}
 use Rattle.rules.specs.Refusal.{numberOf, Refusal}
-use Rattle.rules.specs.Rules.{tableBreaks, judgedBy, place}
+use Rattle.rules.specs.Rules.{countsJudged}
 use Rattle.stored.specs.declared.WriteAnswer.{WriteAnswer}
 use Rattle.stored.specs.declared.WriteAnswer.the-variants.{Written, Uncounted, NoRoom}
 use Rattle.stored.specs.File.{fileOf}
@@ -20,10 +20,6 @@ abbrev pub writeRefusal : WriteAnswer → Refusal
 writeRefusal (Written n) = record { number = 0; subsystem = 0; task = 0 }
 writeRefusal (Uncounted p) = record { number = numberOf Counts; subsystem = p .subsystem; task = p .task }
 writeRefusal NoRoom = record { number = 21; subsystem = 0; task = 0 }
-
--- Rule 1 alone: N and M first, then each n.
-unfoldable pub countsJudged : System → Judged
-countsJudged sys = cond (tableBreaks sys) (Refused Counts (place 0 0)) (judgedBy sys Counts)
 
 -- The bytes at the start of a buffer, and the rest of it as it was.
 unfoldable pub written : List ℕ → List ℕ → List ℕ

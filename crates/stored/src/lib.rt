@@ -1,11 +1,11 @@
-// The stored table: fields of bytes and the reader. `read_table` reads any bytes; crate `writer` writes. Every function
-// here is proved, and the crate assumes nothing of its own. No function of this file has a `requires`; those of `number`
-// ask for the four bytes that they are to read or to write.
+// The stored table: fields of bytes and the reader. `read_grid` reads any bytes into a grid that it is lent, `read_table`
+// into a table; crate `writer` writes. Every function here is proved, and the crate assumes nothing of its own. No function
+// of this file has a `requires`; those of `number` ask for the four bytes that they are to read or to write, and whoever is
+// lent a grid or a block asks for its shape.
 ghost use mathlib.Core.Path.{_≡_};
 ghost use Rattle.stored.specs.Judge.{faultNumber};
 ghost use Rattle.stored.specs.Read.{fileRefusal};
 use rules::Place;
-use table::Subsystem;
 use table::Table;
 
 pub mod decode;
@@ -13,9 +13,12 @@ mod held;
 pub mod judge;
 pub mod number;
 mod read;
+mod taken;
 
 pub use held::table_is_held;
-pub use read::read_table;
+pub use read::read_grid;
+pub use taken::read_table;
+pub use taken::table_of;
 
 // What can be wrong with the rest of a file, from the current field on. specs/Judge.antt gives document 01's number of
 // each.
@@ -58,11 +61,18 @@ pub struct FileRefusal {
     pub offset: usize,
 }
 
-// What the reading of one subsystem with its tasks gives: its answer, the subsystem, and the offset behind it.
-pub struct SubsystemReading {
+// What the reading of one subsystem with its tasks into a block gives: its answer, and where nothing is refused the offset
+// behind it.
+pub struct Part {
     pub answer: ReadAnswer,
-    pub subsystem: Subsystem,
     pub next: usize,
+}
+
+// What the reading of a file into a grid gives: its answer, and where the file is a table its N and M.
+pub struct Head {
+    pub answer: ReadAnswer,
+    pub count: u8,
+    pub resources: u8,
 }
 
 // A write's answer. specs/Write.antt gives the number and place of each case.

@@ -1,28 +1,35 @@
 // The reader: the judge, the walk and the decoder at each field, in the order of the fields. At each field the part of
-// the file from the current offset on goes to the judge, and a refusal leaves early. Assumes nothing.
+// the file from the current offset on goes to the judge, and a refusal leaves early. What is read goes into a grid that the
+// caller lends, so that no table is copied. Assumes nothing.
 ghost use mathlib.Core.Path.{_≡_};
+ghost use mathlib.Core.List.{[]};
 ghost use Prim.Native.Nat.{_≤_};
-ghost use lib.ListN.{length};
+ghost use lib.ListN.{length, getD};
 ghost use Rattle.table.specs.Limits.{most};
-ghost use Rattle.stored.specs.Decode.{headed};
-ghost use Rattle.stored.specs.Read.{refusedAt, wholeUnless, headerIn, headAt, taskPlace, subsystemPlace, tasksRefusal, refusalFrom, bodyRefusal, tableIn, IsReading, readingOf, readOf};
+ghost use Rattle.table.specs.Grid.{HasLines, HasBlocks};
+ghost use Rattle.stored.specs.Decode.{HeadLine};
+ghost use Rattle.stored.specs.Read.{refusedAt, wholeUnless, headerIn, headAt, taskPlace, subsystemPlace, tasksRefusal, refusalFrom, IsPart, IsBody, IsHead};
 use crate::Fault;
 use crate::FieldAnswer;
+use crate::Head;
+use crate::Part;
 use crate::ReadAnswer;
-use crate::Reading;
-use crate::SubsystemReading;
 use crate::decode::TASK_START;
 use crate::decode::decode_subsystem;
 use crate::decode::decode_task;
+use crate::judge::HEADER_LENGTH;
 use crate::judge::START;
+use crate::judge::SUBSYSTEM_LENGTH;
 use crate::judge::TASK;
 use crate::judge::judge;
 use crate::judge::judge_header;
 use crate::judge::judge_subsystem;
 use crate::judge::value;
 use crate::number::NUMBER;
-use table::Subsystem;
 use table::Table;
+use table::grid::BLOCK;
+use table::grid::LINE;
+use table::grid::count;
 
 // The read's answer where the field at an offset was judged so.
 fn answer_at(answer: FieldAnswer, at: usize) -> ReadAnswer
@@ -34,113 +41,101 @@ fn answer_at(answer: FieldAnswer, at: usize) -> ReadAnswer
     }
 }
 
-// Reads the tasks of the subsystem whose field stands at `at`; `head` is what that field says, and `first` the offset of
-// the first task.
-fn read_tasks(file: &[u8], at: usize, head: Subsystem, first: usize, m: usize) -> SubsystemReading
-    requires { ⌜ (m ≤ most) × ((head .count ≤ most) × (head ≡ headAt (now file) at)) ⌝ }
-    requires { ⌜ (first ≡ taskPlace m at 0) × (first ≤ length (now file)) ⌝ }
-    ensures { λ r. ⌜ IsReading (tasksRefusal (now (file .entry)) m at) (now (file .entry)) m at r ⌝ }
+// Reads the n tasks of the subsystem whose field stands at `at` into the block; the block's own line is that field's.
+fn read_tasks(file: &[u8], at: usize, n: usize, m: usize, block: &mut [[u32; LINE]; BLOCK]) -> Part
+    requires { ⌜ (m ≤ most) × ((n ≤ most) × (n ≡ headAt (now file) at .count)) ⌝ }
+    requires { ⌜ (taskPlace m at 0 ≤ length (now file)) × HasLines (now block) ⌝ }
+    requires { ⌜ HeadLine (headAt (now file) at) (getD (now block) 0 []) ⌝ }
+    ensures { λ r. ⌜ IsPart (tasksRefusal (now (file .entry)) m at) (now (file .entry)) m at (now (block .exit)) r ⌝ }
 {
-    let n = head.count as usize;
-    let mut sub = head;
-    let mut place = first;
+    let mut place = at + (START + SUBSYSTEM_LENGTH);
     let mut i = 0;
     while i < n {
         let rest = &file[place..];
         let answer = judge(rest, TASK, TASK_START + NUMBER * m);
         let FieldAnswer::Sound(len) = answer else {
-            return SubsystemReading {
+            return Part {
                 answer: answer_at(answer, place),
-                subsystem: sub,
                 next: place,
             };
         };
-        let task = decode_task(value(rest, len), m);
-        sub.tasks[i] = task;
+        decode_task(value(rest, len), m, &mut block[i + 1]);
         place += START + len;
         i += 1;
     }
-    SubsystemReading {
+    Part {
         answer: ReadAnswer::Whole,
-        subsystem: sub,
         next: place,
     }
 }
 
-// Reads the subsystem whose field stands at `at`, with its tasks.
-fn read_subsystem(file: &[u8], at: usize, m: usize) -> SubsystemReading
-    requires { ⌜ (m ≤ most) × (at ≤ length (now file)) ⌝ }
-    ensures { λ r. ⌜ IsReading (refusalFrom (now (file .entry)) m at) (now (file .entry)) m at r ⌝ }
+// Reads the subsystem whose field stands at `at`, with its tasks, into the block.
+fn read_subsystem(file: &[u8], at: usize, m: usize, block: &mut [[u32; LINE]; BLOCK]) -> Part
+    requires { ⌜ (m ≤ most) × ((at ≤ length (now file)) × HasLines (now block)) ⌝ }
+    ensures { λ r. ⌜ IsPart (refusalFrom (now (file .entry)) m at) (now (file .entry)) m at (now (block .exit)) r ⌝ }
 {
     let rest = &file[at..];
     let answer = judge_subsystem(rest);
     let FieldAnswer::Sound(len) = answer else {
-        return SubsystemReading {
+        return Part {
             answer: answer_at(answer, at),
-            subsystem: Subsystem::zeros(),
             next: at,
         };
     };
-    let head = decode_subsystem(value(rest, len));
-    read_tasks(file, at, head, at + (START + len), m)
+    decode_subsystem(value(rest, len), &mut block[0]);
+    read_tasks(file, at, count(block), m, block)
 }
 
-// Reads the subsystems behind the header, which gives the two counts; `first` is the offset of the first. The table is
-// made here, where it is filled, so that it is copied once less.
-fn read_subsystems(file: &[u8], count: u8, resources: u8, first: usize) -> Reading
-    requires { ⌜ (count ≤ most) × ((resources ≤ most) × (headed count resources ≡ headerIn (now file))) ⌝ }
-    requires { ⌜ (first ≡ subsystemPlace (now file) resources 0) × (first ≤ length (now file)) ⌝ }
-    ensures { λ r. ⌜ r ≡ readingOf (bodyRefusal (now (file .entry)) resources count) (tableIn (now (file .entry))) ⌝ }
+// Reads the n subsystems behind the header, which gives the two counts, into the grid.
+fn read_subsystems(
+    file: &[u8],
+    n: usize,
+    m: usize,
+    grid: &mut [[[u32; LINE]; BLOCK]; Table::MOST],
+) -> ReadAnswer
+    requires { ⌜ (n ≤ most) × (n ≡ headerIn (now file) .count) ⌝ }
+    requires { ⌜ (m ≤ most) × (m ≡ headerIn (now file) .resources) ⌝ }
+    requires { ⌜ (subsystemPlace (now file) m 0 ≤ length (now file)) × HasBlocks (now grid) ⌝ }
+    ensures { λ r. ⌜ IsBody (now (file .entry)) n m (now (grid .exit)) r ⌝ }
 {
-    let n = count as usize;
-    let m = resources as usize;
-    let mut t = Table {
-        count,
-        resources,
-        subsystems: [Subsystem::zeros(); Table::MOST],
-    };
-    let mut at = first;
+    let mut at = START + HEADER_LENGTH;
     let mut s = 0;
     while s < n {
-        let part = read_subsystem(file, at, m);
+        let part = read_subsystem(file, at, m, &mut grid[s]);
         let answer = part.answer;
         let ReadAnswer::Whole = answer else {
-            let zeros = Table::zeros();
-            return Reading {
-                answer: answer,
-                table: zeros,
-            };
+            return answer;
         };
-        let sub = part.subsystem;
-        t.subsystems[s] = sub;
         at = part.next;
         s += 1;
     }
     if at < file.len() {
-        return Reading {
-            answer: ReadAnswer::Refused(Fault::LeftOver, at),
-            table: Table::zeros(),
-        };
+        return ReadAnswer::Refused(Fault::LeftOver, at);
     }
-    Reading {
-        answer: ReadAnswer::Whole,
-        table: t,
-    }
+    ReadAnswer::Whole
 }
 
-// Reads a table from any bytes. Refused, with number and offset, is whatever is not exactly the file of a table with
-// counts in range; the table is then all zeros.
-pub fn read_table(file: &[u8]) -> Reading
-    ensures { λ r. ⌜ r ≡ readOf (now (file .entry)) ⌝ }
+// Reads a table from any bytes into the grid, whatever the grid held. Refused, with number and offset, is whatever is not
+// exactly the file of a table with counts in range; what the grid holds then, and what the counts are, means nothing.
+pub fn read_grid(file: &[u8], grid: &mut [[[u32; LINE]; BLOCK]; Table::MOST]) -> Head
+    requires { ⌜ HasBlocks (now grid) ⌝ }
+    ensures { λ r. ⌜ IsHead (now (file .entry)) (now (grid .exit)) r ⌝ }
 {
     let rest = &file[0..];
     let answer = judge_header(rest);
     let FieldAnswer::Sound(len) = answer else {
-        return Reading {
+        return Head {
             answer: answer_at(answer, 0),
-            table: Table::zeros(),
+            count: 0,
+            resources: 0,
         };
     };
     let header = value(rest, len);
-    read_subsystems(file, header[1], header[2], START + len)
+    let n = header[1];
+    let m = header[2];
+    Head {
+        answer: read_subsystems(file, n as usize, m as usize, grid),
+        count: n,
+        resources: m,
+    }
 }

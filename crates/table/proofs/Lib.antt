@@ -1,3 +1,3 @@
--- Laws of what a table means.
+-- Laws of what a table means, and of grids.
 pub mod Parts
-pub mod ColumnLaws
+pub mod GridLaws

@@ -3,4 +3,4 @@ pub mod Limits
 pub mod Zeros
 pub mod Meaning
 pub mod Parts
-pub mod Columns
+pub mod Grid

@@ -1,11 +1,11 @@
 // The table's kind: what a set of parts is written down as, its limits, and the table of zeros. What a table means is
 // in specs/Meaning.antt. Every function here is proved, and the crate assumes nothing of its own. No public function
-// of this file has a `requires`; `columns` asks for arrays of zeros.
+// of this file has a `requires`.
 ghost use mathlib.Core.Path.{_≡_};
 ghost use Rattle.table.specs.Limits.{most, largest, horizon};
 ghost use Rattle.table.specs.Zeros.{zeroTask, zeroSubsystem, zeroTable};
 
-pub mod columns;
+pub mod grid;
 
 // A task: minimum separation T, work C, deadline D, and for each resource its longest access c, 0 meaning no access.
 pub struct Task {

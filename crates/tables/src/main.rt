@@ -14,8 +14,7 @@ fn judge_named(path: &[u8]) {
     let mut file = [0u8; 4096];
     let n = io::read_full(fd, &mut file);
     libc::close(fd);
-    let mut buf = [0u8; text::ROOM];
-    printing::print_text(&file[..n], &mut buf);
+    printing::print_text(&file[..n]);
 }
 
 // The table that argument i names.

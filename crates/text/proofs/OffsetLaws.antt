@@ -17,7 +17,7 @@ use Rattle.stored.specs.declared.Fault.the-variants.{LeftOver}
 use Rattle.stored.specs.declared.FieldAnswer.{FieldAnswer}
 use Rattle.stored.specs.declared.FieldAnswer.the-variants.{Sound, Faulty}
 use Rattle.stored.specs.declared.FileRefusal.{FileRefusal}
-use Rattle.stored.specs.declared.Reading.{Reading}
+use Rattle.stored.specs.declared.ReadAnswer.{ReadAnswer}
 use Rattle.stored.specs.Field.{fieldSize, valueOf, version, headerTag, headerLength, subsystemTag, subsystemLength, taskLength}
 use Rattle.stored.specs.Judge.{headerInRange, subsystemInRange, judgeHeader, judgeSubsystem, judgeTask}
 use Rattle.stored.specs.Decode.{decodedHeader, decodedSubsystem}
@@ -149,6 +149,5 @@ offset-most file = rw (← same (refusalIn file)) (refusal-at-most file)
     same (some r) = refl
 
 -- So it has the width of the numbers that are printed.
-pub offset-fits : (file : List ℕ) (reading : Reading) (r : FileRefusal) → reading ≡ readOf file → r ≡ fileRefusal (reading .answer) → r .offset < 2 ^ 32
-offset-fits file reading r e f =
-    omega (arith, ap (λ (q : FileRefusal). q .offset) (f ∙ ap (λ (q : Reading). fileRefusal (q .answer)) e), offset-most file)
+pub offset-fits : (file : List ℕ) (answer : ReadAnswer) (r : FileRefusal) → answer ≡ readOf file .answer → r ≡ fileRefusal answer → r .offset < 2 ^ 32
+offset-fits file answer r e f = omega (arith, ap (λ (q : FileRefusal). q .offset) (f ∙ ap fileRefusal e), offset-most file)

@@ -8,8 +8,8 @@ use borrow.Author.Tests.{lt-ltb, le-ltb}
 use Rattle.table.specs.Limits.{most}
 use Rattle.table.specs.Meaning.{System, meaning}
 use Rattle.table.specs.Parts.{subsystemCount}
-use Rattle.table.specs.declared.Table.{Table}
-use Rattle.table.proofs.Parts.{count-of-subsystems}
+use Rattle.table.specs.Grid.{systemIn}
+use Rattle.table.proofs.GridLaws.{count-of-grid}
 use Rattle.rules.specs.declared.Judged.{Judged}
 use Rattle.rules.specs.declared.Judged.the-variants.{Admitted, Refused}
 use Rattle.rules.specs.Rules.{judgeOf}
@@ -19,9 +19,9 @@ use Rattle.report.specs.Report.{reportFor, reportOf}
 use Rattle.stored.specs.declared.Fault.{Fault}
 use Rattle.stored.specs.declared.ReadAnswer.{ReadAnswer}
 use Rattle.stored.specs.declared.ReadAnswer.the-variants.{Whole, Refused as RefusedFile}
-use Rattle.stored.specs.declared.Reading.{Reading}
+use Rattle.stored.specs.declared.Head.{Head}
 use Rattle.stored.specs.declared.FileRefusal.{FileRefusal}
-use Rattle.stored.specs.Read.{fileRefusal, readOf}
+use Rattle.stored.specs.Read.{fileRefusal, readOf, IsHead}
 use Rattle.text.specs.declared.Printed.{Printed}
 use Rattle.text.specs.declared.Printed.the-variants.{Text, NoRoom}
 use Rattle.text.specs.Lines.{refusedFile}
@@ -45,34 +45,30 @@ judged-in-report sys = by-cases (judgeOf sys)
 pub admitted-count : (sys : System) → reportOf sys .judged ≡ Admitted → subsystemCount sys ≤ most
 admitted-count sys e = admitted-is-sound sys (sym (judged-in-report sys) ∙ e) .subsystems-most
 
-module _ (t : Table) (report : Report) (n : ℕ) (e : report ≡ reportOf (meaning t)) (f : n ≡ t .count) where
+module _ (n m : ℕ) (grid : List (List (List ℕ))) (report : Report) (e : report ≡ reportOf (systemIn n m grid)) where
   pub count-if-admitted : report .judged ≡ Admitted → n ≤ most
   count-if-admitted g =
-      rw f
-      (rw (count-of-subsystems t) at
-      (admitted-count (meaning t) (sym (ap (λ (r : Report). r .judged) e) ∙ g)))
+      rw (count-of-grid n m grid) at
+      (admitted-count (systemIn n m grid) (sym (ap (λ (r : Report). r .judged) e) ∙ g))
 
-  pub text-of-table : reportText report n ≡ tableText (meaning t)
+  pub text-of-grid : reportText report n ≡ tableText (systemIn n m grid)
   unfolding tableText
-  text-of-table = ap₂ reportText e (f ∙ sym (count-of-subsystems t))
+  text-of-grid = ap₂ reportText e (sym (count-of-grid n m grid))
 
 ------------------------------------------------------------------------
 -- A file
 
-module _ (file : List ℕ) (reading : Reading) (e : reading ≡ readOf file) where
-  pub text-of-refused-file : (f : Fault) (at : ℕ) (r : FileRefusal) → reading .answer ≡ RefusedFile f at → r ≡ fileRefusal (reading .answer) → refusedFile r ≡ textOf file
+module _ (file : List ℕ) (grid : List (List (List ℕ))) (head : Head) (h : IsHead file grid head) where
+  pub text-of-refused-file : (f : Fault) (at : ℕ) (r : FileRefusal) → head .answer ≡ RefusedFile f at → r ≡ fileRefusal (head .answer) → refusedFile r ≡ textOf file
   unfolding textOf
-  text-of-refused-file f at r g h =
-      ap refusedFile (h ∙ ap fileRefusal g) ∙
-      sym
-      (ap (λ (a : ReadAnswer). readText a (readOf file .table)) (sym (ap (λ (r : Reading). r .answer) e) ∙ g))
+  text-of-refused-file f at r g e =
+      ap refusedFile (e ∙ ap fileRefusal g) ∙
+      sym (ap (λ (a : ReadAnswer). readText a (readOf file .table)) (sym (h .answer-is) ∙ g))
 
-  pub text-of-read-file : reading .answer ≡ Whole → tableText (meaning (reading .table)) ≡ textOf file
+  pub text-of-read-file : head .answer ≡ Whole → (sys : System) → sys ≡ meaning (readOf file .table) → tableText sys ≡ textOf file
   unfolding textOf
-  text-of-read-file g =
-      ap (λ (r : Reading). tableText (meaning (r .table))) e ∙
-      sym
-      (ap (λ (a : ReadAnswer). readText a (readOf file .table)) (sym (ap (λ (r : Reading). r .answer) e) ∙ g))
+  text-of-read-file g sys e =
+      ap tableText e ∙ sym (ap (λ (a : ReadAnswer). readText a (readOf file .table)) (sym (h .answer-is) ∙ g))
 
 ------------------------------------------------------------------------
 -- What a call prints

@@ -1,11 +1,12 @@
-// What `check` prints, as bytes in a lent buffer. Every function here is proved, and the crate assumes nothing of its own. The
-// one public function, `check_text`, has no `requires`.
+// What `check` prints, as bytes in a lent buffer. Every function here is proved, and the crate assumes nothing of its own.
+// `check_text` has no `requires`; `check_text_in` asks for the shape of a grid, which its type gives.
 ghost use mathlib.Core.Path.{_≡_};
 ghost use Prim.Native.Nat.{_+_, _*_, _≤_};
 ghost use lib.ListN.{length};
 ghost use Rattle.lists.specs.Range.{joinTo};
 ghost use Rattle.table.specs.Limits.{most};
-ghost use Rattle.table.specs.Meaning.{meaning};
+ghost use Rattle.table.specs.Grid.{systemIn, HasBlocks};
+ghost use Rattle.rules.specs.Rules.{countsJudged};
 ghost use Rattle.text.specs.Lines.{verdict};
 ghost use Rattle.text.specs.Room.{lineMost, textRoom};
 ghost use Rattle.text.specs.Text.{slotLine, reportText, tableText, textOf, IsPrinted};
@@ -15,10 +16,13 @@ use crate::refused::put_refused_file;
 use crate::refused::put_refused_table;
 use global::Row;
 use lines::put_bytes;
+use numbers::index;
 use report::Report;
 use rules::Judged;
 use stored::ReadAnswer;
 use table::Table;
+use table::grid::BLOCK;
+use table::grid::LINE;
 
 mod line;
 mod refused;
@@ -78,27 +82,46 @@ fn put_report(buf: &mut [u8], report: Report, n: usize) -> usize
     put_rows(buf, at, rows, n)
 }
 
-// The text of a table.
-fn put_table(buf: &mut [u8], t: Table) -> usize
+// The text of a grid of n subsystems and m resources whose counts rule 1 has passed.
+fn put_grid(buf: &mut [u8], grid: &[[[u32; LINE]; BLOCK]; Table::MOST], n: usize, m: usize) -> usize
+    requires { ⌜ countsJudged (systemIn n m (now grid)) ≡ Judged.Admitted ⌝ }
     requires { ⌜ textRoom ≤ length (now buf) ⌝ }
-    ensures { λ r. ⌜ Wrote (now (buf .entry)) 0 (tableText (meaning t)) (now (buf .exit)) r ⌝ }
+    ensures { λ r. ⌜ Wrote (now (buf .entry)) 0 (tableText (systemIn n m (now (grid .entry)))) (now (buf .exit)) r ⌝ }
 {
-    let report = report::analyse(t);
-    put_report(buf, report, numbers::index(t.count))
+    let report = report::report_of(grid, n, m);
+    put_report(buf, report, n)
 }
 
-// The text of a file.
-fn put_text(file: &[u8], buf: &mut [u8]) -> usize
+// The text of a file, which is read into the grid.
+fn put_text(file: &[u8], grid: &mut [[[u32; LINE]; BLOCK]; Table::MOST], buf: &mut [u8]) -> usize
+    requires { ⌜ HasBlocks (now grid) ⌝ }
     requires { ⌜ textRoom ≤ length (now buf) ⌝ }
     ensures { λ r. ⌜ Wrote (now (buf .entry)) 0 (textOf (now (file .entry))) (now (buf .exit)) r ⌝ }
+    ensures { λ _. ⌜ HasBlocks (now (grid .exit)) ⌝ }
 {
-    let reading = stored::read_table(file);
-    let answer = reading.answer;
+    let head = stored::read_grid(file, grid);
+    let answer = head.answer;
     let ReadAnswer::Whole = answer else {
         return put_refused_file(buf, 0, stored::file_refusal(answer));
     };
-    let table = reading.table;
-    put_table(buf, table)
+    put_grid(buf, grid, index(head.count), index(head.resources))
+}
+
+// The text of any file, as `check_text` leaves it, by way of a grid that the caller lends: one who asks for many texts makes
+// the grid once. What the grid holds before and after means nothing.
+pub fn check_text_in(
+    file: &[u8],
+    grid: &mut [[[u32; LINE]; BLOCK]; Table::MOST],
+    buf: &mut [u8],
+) -> Printed
+    requires { ⌜ HasBlocks (now grid) ⌝ }
+    ensures { λ r. ⌜ IsPrinted (now (file .entry)) (now (buf .entry)) (now (buf .exit)) r ⌝ }
+    ensures { λ _. ⌜ HasBlocks (now (grid .exit)) ⌝ }
+{
+    if buf.len() < ROOM {
+        return Printed::NoRoom;
+    }
+    Printed::Text(put_text(file, grid, buf))
 }
 
 // The text of any file, left at the start of the buffer: the refusal of the file, the refusal of its table, or the verdict
@@ -107,8 +130,6 @@ fn put_text(file: &[u8], buf: &mut [u8]) -> usize
 pub fn check_text(file: &[u8], buf: &mut [u8]) -> Printed
     ensures { λ r. ⌜ IsPrinted (now (file .entry)) (now (buf .entry)) (now (buf .exit)) r ⌝ }
 {
-    if buf.len() < ROOM {
-        return Printed::NoRoom;
-    }
-    Printed::Text(put_text(file, buf))
+    let mut grid = [[[0u32; LINE]; BLOCK]; Table::MOST];
+    check_text_in(file, &mut grid, buf)
 }

@@ -11,14 +11,11 @@ ghost use Rattle.lists.specs.Range.{upTo};
 ghost use Rattle.table.specs.Meaning.{meaning, subsystemAt};
 ghost use Rattle.rules.specs.Slots.{CountedTable};
 ghost use Rattle.stored.specs.File.{subsystemBytes, fileOf};
-ghost use Rattle.stored.specs.Write.{IsPut, countsJudged, writeOf, bufferAfter};
+ghost use Rattle.stored.specs.Write.{IsPut, writeOf, bufferAfter};
 use crate::put::put_header;
 use crate::put::put_subsystem;
 use rules::Judged;
-use rules::Place;
-use rules::Rule;
-use rules::breaks::count_out;
-use rules::judging::refused_by_counts;
+use rules::judging::judge_counts;
 use stored::WriteAnswer;
 use stored::decode::TASK_START;
 use stored::judge::HEADER_LENGTH;
@@ -46,31 +43,6 @@ pub fn file_length(t: Table) -> usize
         s += 1;
     }
     total
-}
-
-// The judgement of a table by rule 1 alone.
-fn judge_counts(t: Table) -> Judged
-    ensures { λ r. ⌜ r ≡ countsJudged (meaning t) ⌝ }
-{
-    if count_out(t.count) {
-        return Judged::Refused(
-            Rule::Counts,
-            Place {
-                subsystem: 0,
-                task: 0,
-            },
-        );
-    }
-    if Table::MOST < (t.resources as usize) {
-        return Judged::Refused(
-            Rule::Counts,
-            Place {
-                subsystem: 0,
-                task: 0,
-            },
-        );
-    }
-    refused_by_counts(t)
 }
 
 // The subsystems of a table, each followed by its tasks.

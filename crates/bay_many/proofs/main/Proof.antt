@@ -1,9 +1,10 @@
--- The files share one space and one buffer, whose lengths the loop keeps. Assumes nothing.
+-- The files share one space, one grid and one buffer, whose shapes the loop keeps. Assumes nothing.
+use borrow.Author.Needs.{needs}
 use Prim.Native.Nat.{_≤_, _-_}
 use mathlib.Core.Path.{_≡_}
 use lib.ListN.{length}
-use borrow.Author.Needs.{needs}
-use native.Mathlib.Omega.{arith}
+use Rattle.table.specs.Grid.{HasBlocks}
+use Rattle.table.proofs.GridLaws.{blank-blocks}
 use Rattle.bay_many.proofs.main.Statement.{statement}
 use Rattle.bay_many.proofs.main.Tie as tie
 use Rattle.bay_many.proofs.main.Reads as reads
@@ -11,44 +12,44 @@ use Rattle.bay_many.proofs.main.Lts as lts
 use Rattle.bay_many.proofs.judge_next.Reads as judge-next-reads
 
 abbrev Inv-loop : tie.InvT-loop
-Inv-loop space₀ buf₀ k₀ space buf k = (k ≤ 4294967295) × (length space ≡ 4096) × (length buf ≡ 2048)
+Inv-loop space₀ grid₀ buf₀ k₀ space grid buf k = (k ≤ 4294967295) × (length space ≡ 4096) × (length buf ≡ 2048) × HasBlocks grid
 
 abbrev μ-loop : tie.MeasureT-loop
-μ-loop space₀ buf₀ k₀ space buf k = 4294967295 - k
+μ-loop space₀ grid₀ buf₀ k₀ space grid buf k = 4294967295 - k
 
--- src/main.rt:88:5
+-- src/main.rt:109:5
 loop-holds : tie.Need-loop-holds Inv-loop μ-loop
-loop-holds c = search needs
+loop-holds c = (search needs, search needs, search needs, blank-blocks)
 
--- src/main.rt:88:41
+-- src/main.rt:109:41
 slice-aggregate-judge-next : tie.Need-slice-aggregate-judge-next Inv-loop μ-loop
 slice-aggregate-judge-next c = search needs
 
--- src/main.rt:88:53
+-- src/main.rt:109:64
 slice-aggregate-judge-next-2 : tie.Need-slice-aggregate-judge-next-2 Inv-loop μ-loop
 slice-aggregate-judge-next-2 c = search needs
 
--- src/main.rt:88:27
+-- src/main.rt:109:27
 judge-next-requires : tie.Need-judge-next-requires Inv-loop μ-loop
 judge-next-requires c κs = search needs
 
--- src/main.rt:89:9
+-- src/main.rt:110:9
 add-k : tie.Need-add-k Inv-loop μ-loop
 add-k c = search needs
 
--- src/main.rt:88:5
+-- src/main.rt:109:5
 loop-less : tie.Need-loop-less Inv-loop μ-loop
 loop-less c = search needs
 
--- src/main.rt:88:5
+-- src/main.rt:109:5
 loop-again : tie.Need-loop-again Inv-loop μ-loop
 loop-again c = search needs
 
--- src/main.rt:84:1
+-- src/main.rt:104:1
 returns : tie.Need-returns Inv-loop μ-loop
 returns c = search needs
 
--- src/main.rt:84:1
+-- src/main.rt:104:1
 returns-2 : tie.Need-returns-2 Inv-loop μ-loop
 returns-2 c = search needs
 

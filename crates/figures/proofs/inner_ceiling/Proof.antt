@@ -1,32 +1,43 @@
 -- `figures::inner_ceiling` is safe: an inner ceiling is one of the tasks. Assumes nothing.
-use Rattle.rules.proofs.HoldingLaws.{ceiling-is-a-task}
-use native.Mathlib.Omega.{arith}
 use borrow.Author.Needs.{needs}
+use native.Mathlib.Omega.{arith}
+use mathlib.Core.Path.{_∙_}
+use Rattle.table.proofs.GridLaws.{blank-lines}
+use Rattle.rules.proofs.HoldingLaws.{ceiling-is-a-task}
 use Rattle.figures.proofs.inner_ceiling.Statement.{statement}
 use Rattle.figures.proofs.inner_ceiling.Tie as tie
 use Rattle.figures.proofs.inner_ceiling.Reads as reads
 use Rattle.figures.proofs.inner_ceiling.Lts as lts
 use Rattle.rules.proofs.holding.inner_ceiling.Reads as inner-ceiling-reads
-use Rattle.table.proofs.columns.take_columns.Reads as take-columns-reads
+use Rattle.table.proofs.grid.lay_out_subsystem.Reads as lay-out-subsystem-reads
 
--- src/main.rt:129:5
-take-columns-requires : tie.Need-take-columns-requires
-take-columns-requires c κs = search needs
+-- src/main.rt:128:5
+lay-out-subsystem-requires : tie.Need-lay-out-subsystem-requires
+lay-out-subsystem-requires c κs = (omega (arith, c .before .pre), blank-lines)
 
--- src/main.rt:136:19
+-- src/main.rt:129:19
 inner-ceiling-requires : tie.Need-inner-ceiling-requires
-inner-ceiling-requires c κs = search needs
+inner-ceiling-requires c κs =
+    let l = c .before in
+    let counted = l .lay-out-subsystem .ensures .0 .count-is ∙ l .before .before .pre in
+    record {
+      some-task = omega (arith, counted);
+      tasks-most = omega (arith, counted);
+      resources-most = search needs;
+      listed = search needs;
+    }
 
--- src/main.rt:136:19
+-- src/main.rt:129:19
 add-ceiling : tie.Need-add-ceiling
 add-ceiling c =
-    let s = c .before .before .before .before .before .before .before in
-    omega (arith, c .inner-ceiling .ensures, ceiling-is-a-task 1 (s .args .sub) 0 (omega (arith, s .pre)))
+    let l = c .before .before in
+    let counted = l .lay-out-subsystem .ensures .0 .count-is ∙ l .before .before .pre in
+    omega (arith, c .inner-ceiling .ensures, counted, ceiling-is-a-task (l .lay-out-subsystem .last .1 .0) 0 1 (omega arith) (omega (arith, counted)))
 
--- src/main.rt:122:1
+-- src/main.rt:124:1
 returns : tie.Need-returns
 returns c = search needs
 
 pub inner-ceiling-spec : {M : Type 1} → statement M
 inner-ceiling-spec =
-    tie.close (tie.spec take-columns-requires inner-ceiling-requires add-ceiling returns)
+    tie.close (tie.spec lay-out-subsystem-requires inner-ceiling-requires add-ceiling returns)

@@ -1,9 +1,8 @@
--- `local::task_passes` says whether the task passes: what it hands on is the task's need. Assumes nothing.
-use Prim.Native.Nat.{ℕ, _+_, _≤_, _<_}
-use mathlib.Core.Path.{_≡_, _∙_}
-use Rattle.local.proofs.TaskLaws.{Within, some-budget, tasks-within, task-within, tasks-are-loads, passes-by-columns}
-use native.Mathlib.Omega.{arith}
+-- `local::task_passes` meets its contract. Assumes nothing.
 use borrow.Author.Needs.{needs}
+use native.Mathlib.Omega.{arith}
+use mathlib.Core.Path.{_∙_}
+use Rattle.local.proofs.TaskLaws.{Within, some-task, tasks-within, some-budget, task-within, tasks-are-loads, passes-by-block}
 use Rattle.local.proofs.task_passes.Statement.{statement}
 use Rattle.local.proofs.task_passes.Tie as tie
 use Rattle.local.proofs.task_passes.Reads as reads
@@ -11,76 +10,94 @@ use Rattle.local.proofs.task_passes.Lts as lts
 use Rattle.local.proofs.blocking.task_blocking.Reads as task-blocking-reads
 use Rattle.local.proofs.passing.held_within.Reads as held-within-reads
 use Rattle.numbers.proofs.wide.Reads as wide-reads
+use Rattle.table.proofs.grid.budget.Reads as budget-reads
+use Rattle.table.proofs.grid.deadline.Reads as deadline-reads
+use Rattle.table.proofs.grid.period.Reads as period-reads
+use Rattle.table.proofs.grid.work.Reads as work-reads
 
--- src/lib.rt:38:9
+-- src/lib.rt:43:9
 task-blocking-requires : tie.Need-task-blocking-requires
-task-blocking-requires c κs = (
-  record {
-    tasks-most = tasks-within _ _ (c .pre .0 .sound);
-    resources-most = c .pre .0 .resources-most;
-    task = c .pre .1 .0;
-    are = c .pre .1 .1 .ceilings-are;
-  },
-  c .pre .1 .1 .columns .accesses-are,
-)
+task-blocking-requires c κs =
+    record {
+      some-task = some-task _ _ (c .pre .0 .sound);
+      tasks-most = tasks-within _ _ (c .pre .0 .sound);
+      resources-most = c .pre .0 .resources-most;
+      task = c .pre .1 .0;
+      are = c .pre .1 .1 .ceilings-are;
+    }
 
--- src/lib.rt:39:44
-mul-wide : tie.Need-mul-wide
-mul-wide c = search needs
+-- src/lib.rt:44:35
+work-requires : tie.Need-work-requires
+work-requires c κs = omega (arith, c .before .pre .1 .0, tasks-within _ _ (c .before .pre .0 .sound))
 
--- src/lib.rt:39:44
-element-copy-out-wide : tie.Need-element-copy-out-wide
-element-copy-out-wide c = omega (arith, tasks-within _ _ (c .before .pre .0 .sound))
-
--- src/lib.rt:39:30
+-- src/lib.rt:44:30
 wide-requires : tie.Need-wide-requires
 wide-requires c κs = search needs
 
--- src/lib.rt:39:20
+-- src/lib.rt:44:20
 add-constant : tie.Need-add-constant
 add-constant c = search needs
 
--- src/lib.rt:40:20
-mul-deadline : tie.Need-mul-deadline
-mul-deadline c = search needs
+-- src/lib.rt:46:17
+period-requires : tie.Need-period-requires
+period-requires c κs = search needs
 
--- src/lib.rt:40:20
-element-copy-out-deadline : tie.Need-element-copy-out-deadline
-element-copy-out-deadline c = omega (arith, tasks-within _ _ (c .before .before .before .pre .0 .sound))
+-- src/lib.rt:47:17
+budget-requires : tie.Need-budget-requires
+budget-requires c κs = search needs
 
--- src/lib.rt:46:5
+-- src/lib.rt:50:59
+deadline-requires : tie.Need-deadline-requires
+deadline-requires c κs =
+    let s : tie.Start = c .before .before .before .before .before .before .before in
+    omega (arith, s .pre .1 .0, tasks-within _ _ (s .pre .0 .sound))
+
+-- src/lib.rt:50:5
 held-within-requires : tie.Need-held-within-requires
 held-within-requires c κs =
-    let s : tie.Start = c .before .before .before .before .before .before in
-    let ok : Within (s .args .m) (s .args .sub) (s .pre .0 .sound) _ _ _ _ (s .pre .1 .1 .columns) (s .args .i) = task-within _ _ (s .pre .0 .sound) _ _ _ _ (s .pre .1 .1 .columns) _ (s .pre .1 .0) in (
-      tasks-are-loads _ _ (s .pre .0 .sound) _ _ _ _ (s .pre .1 .1 .columns) _ (omega arith),
+    let p = c .before .before .before .before in
+    let w = p .before in
+    let t = w .before .before in
+    let s : tie.Start = t .before in
+    let a = s .args in
+    let ok : Within (a .m) (a .block .now) (s .pre .0 .sound) (a .i) = task-within _ _ (s .pre .0 .sound) _ (s .pre .1 .0) in (
+      tasks-are-loads (a .m) (a .block .now) (s .pre .0 .sound) (a .i) (s .pre .1 .0) _ _ _ (s .pre .1 .1),
       (
         record {
-          budget-least = some-budget _ _ (s .pre .0 .sound);
-          budget-by-end = omega arith;
-          end-by-period = omega arith;
+          budget-least = omega (arith, c .before .before .before .budget .ensures, some-budget _ _ (s .pre .0 .sound));
+          budget-by-end = omega (arith, c .before .before .before .budget .ensures, s .pre .0 .budget-by-end);
+          end-by-period = omega (arith, p .period .ensures, s .pre .0 .end-by-period);
         },
-        (omega arith, omega arith, omega arith),
+        (
+          omega (arith, w .wide .ensures .0, w .before .work .ensures, ok .work-least),
+          omega (arith, t .task-blocking .ensures .1, w .wide .ensures .1),
+          omega (arith, c .deadline .ensures, ok .deadline-most),
+        ),
       ),
     )
 
--- src/lib.rt:23:1
+-- src/lib.rt:30:1
 returns : tie.Need-returns
 returns c =
-    let s : tie.Start = c .before .before .before .before .before .before .before in
-    c .held-within .ensures
-    ∙ passes-by-columns _ _ (s .pre .0 .sound) _ _ _ _ (s .pre .1 .1 .columns) _ _ (s .pre .1 .0) _ _ (c .before .before .before .before .before .before .task-blocking .ensures .0) (c .before .before .before .before .wide .ensures .0)
+    let d = c .before in
+    let b = d .before .before .before in
+    let p = b .before in
+    let w = p .before in
+    let t = w .before .before in
+    let s : tie.Start = t .before in
+    c .held-within .ensures ∙
+    passes-by-block (s .args .m) (s .args .block .now) (s .pre .0 .sound) (s .args .i) (s .pre .1 .0) _ _ _ (s .pre .1 .1) (s .args .end) _ _ _ (t .task-blocking .ensures .0) (w .wide .ensures .0 ∙ w .before .work .ensures) (d .deadline .ensures) _ _ (p .period .ensures) (b .budget .ensures)
 
 pub task-passes-spec : {M : Type 1} → statement M
 task-passes-spec =
     tie.close
     (tie.spec
     task-blocking-requires
-    mul-wide
-    element-copy-out-wide
+    work-requires
     wide-requires
     add-constant
-    mul-deadline
-    element-copy-out-deadline
+    period-requires
+    budget-requires
+    deadline-requires
     held-within-requires
     returns)

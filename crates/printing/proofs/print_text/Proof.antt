@@ -1,78 +1,23 @@
--- `printing::print_text` is safe: what the text takes lies within the lent buffer. Assumes nothing.
-use mathlib.Core.Path.{sym}
-use lib.Seq.{length-take-le}
-use Rattle.printing.proofs.Within.{printed-within}
-use native.Mathlib.Omega.{arith}
+-- `printing::print_text` meets its contract. Assumes nothing.
 use borrow.Author.Needs.{needs}
+use Rattle.table.proofs.GridLaws.{blank-blocks}
 use Rattle.printing.proofs.print_text.Statement.{statement}
 use Rattle.printing.proofs.print_text.Tie as tie
 use Rattle.printing.proofs.print_text.Reads as reads
 use Rattle.printing.proofs.print_text.Lts as lts
-use Rattle.io.proofs.write_all.Reads as write-all-reads
-use Rattle.text.proofs.check_text.Reads as check-text-reads
+use Rattle.printing.proofs.print_text_in.Reads as print-text-in-reads
 
--- src/lib.rt:10:9
-check-text-requires : tie.Need-check-text-requires
-check-text-requires c κs = search needs
+-- src/lib.rt:31:36
+slice-aggregate-print-text-in : tie.Need-slice-aggregate-print-text-in
+slice-aggregate-print-text-in c = search needs
 
--- src/lib.rt:11:26
-enum-known-printed : tie.Need-enum-known-printed
-enum-known-printed c = search needs
+-- src/lib.rt:31:5
+print-text-in-requires : tie.Need-print-text-in-requires
+print-text-in-requires c κs = blank-blocks
 
--- src/lib.rt:12:38
-slice-reshare-prefix-write-all : tie.Need-slice-reshare-prefix-write-all
-slice-reshare-prefix-write-all c =
-    omega (
-      arith,
-      printed-within _ _ _ _ (c .before .before .before .before .before .check-text .ensures .answered) (c .before .printed .given .1),
-      c .before .before .before .before .before .check-text .kept .1,
-    )
-
--- src/lib.rt:12:38
-slice-aggregate-write-all : tie.Need-slice-aggregate-write-all
-slice-aggregate-write-all c =
-    sym
-    (length-take-le _ _
-    (omega (
-      arith,
-      printed-within _ _ _ _ (c .before .before .before .before .before .before .check-text .ensures .answered) (c .before .before .printed .given .1),
-      c .before .before .before .before .before .before .check-text .kept .1,
-    )))
-
--- src/lib.rt:12:9
-write-all-requires : tie.Need-write-all-requires
-write-all-requires c κs = search needs
-
-enum-told : tie.Need-enum-told
-enum-told c = search needs
-
--- src/lib.rt:7:1
-same-length : tie.Need-same-length
-same-length c = search needs
-
--- src/lib.rt:7:1
+-- src/lib.rt:26:1
 returns : tie.Need-returns
 returns c = search needs
 
--- src/lib.rt:7:1
-same-length-2 : tie.Need-same-length-2
-same-length-2 c = search needs
-
--- src/lib.rt:7:1
-returns-2 : tie.Need-returns-2
-returns-2 c = search needs
-
 pub print-text-spec : {M : Type 1} → statement M
-print-text-spec =
-    tie.close
-    (tie.spec
-    check-text-requires
-    enum-known-printed
-    slice-reshare-prefix-write-all
-    slice-aggregate-write-all
-    write-all-requires
-    enum-told
-    same-length
-    returns
-    same-length-2
-    returns-2)
+print-text-spec = tie.close (tie.spec slice-aggregate-print-text-in print-text-in-requires returns)

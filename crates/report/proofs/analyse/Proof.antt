@@ -1,69 +1,81 @@
-use native.Mathlib.Omega.{arith}
-use Rattle.report.proofs.ReportLaws.{refused-report, admitted-report}
-use mathlib.Core.Path.{sym, _∙_}
-use Rattle.table.specs.Meaning.{meaning}
-use Rattle.rules.proofs.Sound.{admitted-is-sound}
-use Rattle.report.proofs.InterfaceLaws.{few-subsystems}
+-- `report::analyse` meets its contract. Assumes nothing.
 use borrow.Author.Needs.{needs}
+use mathlib.Core.Path.{sym, ap, _∙_}
+use Rattle.table.proofs.GridLaws.{blank-blocks}
+use Rattle.rules.specs.Rules.{countsJudged}
+use Rattle.rules.proofs.OrderLaws.{refusal-stands, counts-first, has-room, laid-out-means}
+use Rattle.report.specs.Report.{reportOf}
+use Rattle.report.proofs.ReportLaws.{refused-report}
 use Rattle.report.proofs.analyse.Statement.{statement}
 use Rattle.report.proofs.analyse.Tie as tie
 use Rattle.report.proofs.analyse.Reads as reads
 use Rattle.report.proofs.analyse.Lts as lts
 use Rattle.numbers.proofs.index.Reads as index-reads
-use Rattle.report.proofs.accepting.all_accepted.Reads as all-accepted-reads
-use Rattle.report.proofs.rows.no_row.Reads as no-row-reads
-use Rattle.report.proofs.rows.rows_of.Reads as rows-of-reads
-use Rattle.rules.proofs.judging.judge.Reads as judge-reads
+use Rattle.report.proofs.report_of.Reads as report-of-reads
+use Rattle.report.proofs.without_figures.Reads as without-figures-reads
+use Rattle.rules.proofs.judging.judge_counts.Reads as judge-counts-reads
+use Rattle.table.proofs.grid.lay_out.Reads as lay-out-reads
 
--- src/lib.rt:26:9
-judge-requires : tie.Need-judge-requires
-judge-requires c κs = search needs
+-- src/lib.rt:68:9
+judge-counts-requires : tie.Need-judge-counts-requires
+judge-counts-requires c κs = search needs
 
 enum-told : tie.Need-enum-told
 enum-told c = search needs
 
--- src/lib.rt:31:20
+-- src/lib.rt:70:9
 enum-told-2 : tie.Need-enum-told-2
 enum-told-2 c = search needs
 
--- src/lib.rt:31:20
-no-row-requires : tie.Need-no-row-requires
-no-row-requires c κs = search needs
+-- src/lib.rt:70:9
+without-figures-requires : tie.Need-without-figures-requires
+without-figures-requires c κs = search needs
 
--- src/lib.rt:28:9
+-- src/lib.rt:70:9
 returns : tie.Need-returns
 returns c =
-    refused-report (meaning (c .before .before .before .before .args .t)) _ _ _ _ (c .before .before .before .judge .ensures) (c .before .enum-told2 .given .1) (c .no-row .ensures)
+    let told = c .before .enum-told2 .given .1 in
+    refused-report _ _ _ _ _ (refusal-stands _ _ _ _ _ (c .before .before .before .judge-counts .ensures) told ∙ counts-first _) told (c .without-figures .ensures)
 
--- src/lib.rt:34:9
-rows-of-requires : tie.Need-rows-of-requires
-rows-of-requires c κs = admitted-is-sound _ (sym (c .before .before .judge .ensures) ∙ c .enum-told .given .1)
+-- src/lib.rt:73:5
+lay-out-requires : tie.Need-lay-out-requires
+lay-out-requires c κs =
+    let counts = c .before .before .before .judge-counts .ensures in
+    (has-room _ (sym counts ∙ c .before .enum-told .given .1), blank-blocks)
 
--- src/lib.rt:35:50
+-- src/lib.rt:74:22
 index-requires : tie.Need-index-requires
 index-requires c κs = search needs
 
--- src/lib.rt:35:9
-all-accepted-requires : tie.Need-all-accepted-requires
-all-accepted-requires c κs =
-    let t = c .before .before .before .before .before .args .t in
-    omega (arith, few-subsystems t (admitted-is-sound (meaning t) (sym (c .before .before .before .before .judge .ensures) ∙ c .before .before .enum-told .given .1)) .0)
+-- src/lib.rt:74:38
+index-requires-2 : tie.Need-index-requires-2
+index-requires-2 c κs = search needs
 
--- src/lib.rt:23:1
+-- src/lib.rt:74:5
+report-of-requires : tie.Need-report-of-requires
+report-of-requires c κs =
+    let l = c .before .before .before in
+    let counts = l .before .before .before .before .judge-counts .ensures in
+    let means = laid-out-means _ _ (l .lay-out .ensures) _ _ (c .before .index .ensures .0) (c .index2 .ensures .0) in
+    ap countsJudged means ∙ sym counts ∙ l .before .before .enum-told .given .1
+
+-- src/lib.rt:65:1
 returns-2 : tie.Need-returns-2
 returns-2 c =
-    admitted-report (c .before .before .before .before .before .before .args .t) _ _ _ _ (c .before .before .before .before .before .judge .ensures) (c .before .before .before .enum-told .given .1) (c .before .before .rows-of .ensures) (c .before .index .ensures .0) (c .all-accepted .ensures)
+    let l = c .before .before .before .before in
+    c .report-of .ensures ∙ ap reportOf (laid-out-means _ _ (l .lay-out .ensures) _ _ (c .before .before .index .ensures .0) (c .before .index2 .ensures .0))
 
 pub analyse-spec : {M : Type 1} → statement M
 analyse-spec =
     tie.close
     (tie.spec
-    judge-requires
+    judge-counts-requires
     enum-told
     enum-told-2
-    no-row-requires
+    without-figures-requires
     returns
-    rows-of-requires
+    lay-out-requires
     index-requires
-    all-accepted-requires
+    index-requires-2
+    report-of-requires
     returns-2)

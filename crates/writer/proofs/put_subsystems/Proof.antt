@@ -56,7 +56,7 @@ put-subsystem-requires c κs =
     let s = c .before .before .before .before .before in
     let k = c .before .before .before .loop in
     let counts = s .pre .0 in
-    ((counts .resources-most, counts .counted (k .s) (c .before .before .loop-test .taken) .tasks-most), list-has-room subsystemBytes (subsystemAt (s .args .t2)) (s .args .free .now) (s .args .t2 .count) (k .s) (k .at) (k .free) (c .before .before .loop-test .taken) (s .pre .1) (k .inv .1) _ refl)
+    ((counts .resources-most, counts .tasks-most (k .s) (c .before .before .loop-test .taken)), list-has-room subsystemBytes (subsystemAt (s .args .t2)) (s .args .free .now) (s .args .t2 .count) (k .s) (k .at) (k .free) (c .before .before .loop-test .taken) (s .pre .1) (k .inv .1) _ refl)
 
 add-at : tie.Need-add-at Inv-loop μ-loop
 unfolding subsystemAt

@@ -3,7 +3,8 @@
 use borrow.Author.Needs.{needs}
 use mathlib.Core.Path.{sym, _∙_}
 use Rattle.table.specs.Meaning.{meaning}
-use Rattle.stored.proofs.CountLaws.{counted, uncounted, no-room, file-put}
+use Rattle.rules.proofs.OrderLaws.{counted-table}
+use Rattle.stored.proofs.WriteEnds.{uncounted, no-room, file-put}
 use Rattle.writer.proofs.write_table.Statement.{statement}
 use Rattle.writer.proofs.write_table.Tie as tie
 
@@ -33,7 +34,7 @@ returns-2 c =
 
 put-file-requires : tie.Need-put-file-requires
 put-file-requires c κs = (
-  counted (c .before .before .before .before .before .before .before .args .t) (sym (c .before .before .before .before .before .judge-counts .ensures) ∙ c .before .before .before .enum-told .given .1) .1,
+  counted-table (c .before .before .before .before .before .before .before .args .t) (sym (c .before .before .before .before .before .judge-counts .ensures) ∙ c .before .before .before .enum-told .given .1),
   rw (← c .before .before .file-length .ensures) (c .before .if1 .left),
 )
 

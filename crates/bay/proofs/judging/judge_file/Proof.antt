@@ -1,51 +1,81 @@
--- `bay::judging::judge_file` meets its contract, for a file that is refused and for one that is a table. A refusal's offset
--- fits, since it is never behind the largest file. Assumes nothing.
+-- `bay::judging::judge_file` meets its contract. Assumes nothing.
+use borrow.Author.Needs.{needs}
+use mathlib.Core.Path.{refl}
+use Rattle.table.proofs.GridLaws.{blank-blocks}
+use Rattle.stored.proofs.WholeCounts.{grid-means-table, grid-counts-pass}
 use Rattle.text.proofs.OffsetLaws.{offset-fits}
 use Rattle.bay.proofs.JudgementLaws.{judgement-of-refused, judgement-of-read}
-use borrow.Author.Needs.{needs}
 use Rattle.bay.proofs.judging.judge_file.Statement.{statement}
 use Rattle.bay.proofs.judging.judge_file.Tie as tie
+use Rattle.bay.proofs.judging.judge_file.Reads as reads
+use Rattle.bay.proofs.judging.judge_file.Lts as lts
+use Rattle.bay.proofs.judging.file_judgement.Reads as file-judgement-reads
+use Rattle.bay.proofs.judging.table_judgement.Reads as table-judgement-reads
+use Rattle.numbers.proofs.index.Reads as index-reads
+use Rattle.rules.proofs.judging.judge_grid.Reads as judge-grid-reads
+use Rattle.stored.proofs.file_refusal.Reads as file-refusal-reads
+use Rattle.stored.proofs.read_grid.Reads as read-grid-reads
 
-read-table-requires : tie.Need-read-table-requires
-read-table-requires c κs = search needs
+-- src/judging.rt:51:9
+read-grid-requires : tie.Need-read-grid-requires
+read-grid-requires c κs = blank-blocks
 
 enum-told : tie.Need-enum-told
 enum-told c = search needs
 
+-- src/judging.rt:54:31
 enum-told-2 : tie.Need-enum-told-2
 enum-told-2 c = search needs
 
+-- src/judging.rt:54:31
 file-refusal-requires : tie.Need-file-refusal-requires
 file-refusal-requires c κs = search needs
 
+-- src/judging.rt:54:9
 file-judgement-requires : tie.Need-file-judgement-requires
-file-judgement-requires c κs =
-    offset-fits (c .before .before .before .before .before .args .file .now) _ _ (c .before .before .before .read-table .ensures) (c .file-refusal .ensures)
+file-judgement-requires c κs = offset-fits _ _ _ (c .before .before .before .read-grid .ensures .answer-is) (c .file-refusal .ensures)
 
+-- src/judging.rt:54:9
 returns : tie.Need-returns
-returns c =
-    judgement-of-refused (c .before .before .before .before .before .before .args .file .now) _ (c .before .before .before .before .read-table .ensures) _ _ _ _ (c .before .before .enum-told2 .given .1) (c .before .file-refusal .ensures) (c .file-judgement .ensures)
+returns c = judgement-of-refused _ _ (c .before .before .before .before .read-grid .ensures .answer-is) _ _ _ _ (c .before .before .enum-told2 .given .1) (c .before .file-refusal .ensures) (c .file-judgement .ensures)
 
-judge-requires : tie.Need-judge-requires
-judge-requires c κs = search needs
+-- src/judging.rt:57:36
+index-requires : tie.Need-index-requires
+index-requires c κs = search needs
 
+-- src/judging.rt:57:55
+index-requires-2 : tie.Need-index-requires-2
+index-requires-2 c κs = search needs
+
+-- src/judging.rt:57:9
+judge-grid-requires : tie.Need-judge-grid-requires
+judge-grid-requires c κs =
+    let r = c .before .before .before .before .before .before in
+    (grid-counts-pass _ _ _ (r .read-grid .ensures) (c .before .before .before .before .enum-told .given .1) _ _ (c .before .before .index .ensures .0) (c .before .index2 .ensures .0), refl)
+
+-- src/judging.rt:58:5
 table-judgement-requires : tie.Need-table-judgement-requires
 table-judgement-requires c κs = search needs
 
+-- src/judging.rt:47:1
 returns-2 : tie.Need-returns-2
 returns-2 c =
-    judgement-of-read (c .before .before .before .before .before .before .before .args .file .now) _ (c .before .before .before .before .before .read-table .ensures) _ _ (c .before .before .before .enum-told .given .1) (c .before .judge .ensures) (c .table-judgement .ensures)
+    let r = c .before .before .before .before .before .before .before .before in
+    let told = c .before .before .before .before .before .before .enum-told .given .1 in
+    judgement-of-read _ _ (r .read-grid .ensures .answer-is) _ _ _ told (grid-means-table _ _ _ (r .read-grid .ensures) told _ _ (c .before .before .before .before .index .ensures .0) (c .before .before .before .index2 .ensures .0)) (c .before .judge-grid .ensures .0) (c .table-judgement .ensures)
 
 pub judge-file-spec : {M : Type 1} → statement M
 judge-file-spec =
     tie.close
     (tie.spec
-    read-table-requires
+    read-grid-requires
     enum-told
     enum-told-2
     file-refusal-requires
     file-judgement-requires
     returns
-    judge-requires
+    index-requires
+    index-requires-2
+    judge-grid-requires
     table-judgement-requires
     returns-2)

@@ -1,20 +1,27 @@
 -- `global::ceilings::in_common` meets its contract: its parts do. Assumes nothing.
 use borrow.Author.Needs.{needs}
+use denote.Ref.{now}
+use Rattle.global.proofs.Slots.{some-of, few-of, few-resources-of}
 use Rattle.global.proofs.CommonLaws.{common-is}
 use Rattle.global.proofs.ceilings.in_common.Statement.{statement}
 use Rattle.global.proofs.ceilings.in_common.Tie as tie
 
 periods-of-requires : tie.Need-periods-of-requires
-periods-of-requires c κs = search needs
+periods-of-requires c κs = few-of (c .args .n) (c .args .m) (now (c .args .lines)) (c .pre)
 
 costs-of-requires : tie.Need-costs-of-requires
 costs-of-requires c κs = search needs
 
 ceilings-of-requires : tie.Need-ceilings-of-requires
-ceilings-of-requires c κs = search needs
+ceilings-of-requires c κs =
+    let s = c .before .before in
+    let a = s .args in
+    (some-of (a .n) (a .m) (now (a .lines)) (s .pre), few-of (a .n) (a .m) (now (a .lines)) (s .pre), few-resources-of (a .n) (a .m) (now (a .lines)) (s .pre))
 
 returns : tie.Need-returns
-returns c = common-is (c .before .before .before .args .g) _ _ _ (c .before .before .periods-of .ensures) (c .before .costs-of .ensures) (c .ceilings-of .ensures)
+returns c =
+    let a = c .before .before .before .args in
+    common-is (a .n) (a .m) (now (a .lines)) _ _ _ (c .before .before .periods-of .ensures) (c .before .costs-of .ensures) (c .ceilings-of .ensures)
 
 pub in-common-spec : {M : Type 1} → statement M
 in-common-spec =

@@ -9,17 +9,17 @@ use Rattle.lists.proofs.Turn.{turn-within, turn-less}
 use Rattle.lists.specs.Range.{padded}
 use Rattle.lists.proofs.UpTo.{padded-none}
 use Rattle.table.specs.Limits.{most}
-use Rattle.global.specs.Interfaces.{holdingAt}
+use Rattle.global.specs.Interfaces.{heldAt}
 use Rattle.global.specs.Leading.{ceilingAt, led}
 use Rattle.global.proofs.Slots.{filled-next}
 use Rattle.global.proofs.leading.leading.Statement.{statement}
 use Rattle.global.proofs.leading.leading.Tie as tie
 
 abbrev Inv-loop : tie.InvT-loop
-Inv-loop i ceilings held₀ l₀ held l = (l ≤ length ceilings) × (held ≡ padded (led (holdingAt i) (ceilingAt ceilings) (length ceilings)) 0 most l)
+Inv-loop lines s ceilings deciding₀ l₀ deciding l = (l ≤ length ceilings) × (deciding ≡ padded (led (heldAt lines s) (ceilingAt ceilings) (length ceilings)) 0 most l)
 
 abbrev μ-loop : tie.MeasureT-loop
-μ-loop i ceilings held₀ l₀ held l = length ceilings - l
+μ-loop lines s ceilings deciding₀ l₀ deciding l = length ceilings - l
 
 loop-holds : tie.Need-loop-holds Inv-loop μ-loop
 loop-holds c = (omega arith, sym (padded-none _ 0 most))
@@ -27,11 +27,11 @@ loop-holds c = (omega arith, sym (padded-none _ 0 most))
 held-if-leading-requires : tie.Need-held-if-leading-requires Inv-loop μ-loop
 held-if-leading-requires c κs = search needs
 
-mul-held : tie.Need-mul-held Inv-loop μ-loop
-mul-held c = search needs
+mul-deciding : tie.Need-mul-deciding Inv-loop μ-loop
+mul-deciding c = search needs
 
-array-write-held : tie.Need-array-write-held Inv-loop μ-loop
-array-write-held c = search needs
+array-write-deciding : tie.Need-array-write-deciding Inv-loop μ-loop
+array-write-deciding c = search needs
 
 add-l : tie.Need-add-l Inv-loop μ-loop
 add-l c = search needs
@@ -46,8 +46,7 @@ loop-again c =
 
 returns : tie.Need-returns Inv-loop μ-loop
 returns c =
-    let s = c .before .before .before in
-    let e : c .before .loop .l ≡ length (now (s .args .ceilings)) = omega arith in
+    let e : c .before .loop .l ≡ length (now (c .before .before .before .args .ceilings)) = omega arith in
     c .before .loop .inv .1 ∙ ap (padded _ 0 most) e
 
 pub leading-spec : {M : Type 1} → statement M
@@ -58,8 +57,8 @@ leading-spec =
     μ-loop
     loop-holds
     held-if-leading-requires
-    mul-held
-    array-write-held
+    mul-deciding
+    array-write-deciding
     add-l
     loop-less
     loop-again

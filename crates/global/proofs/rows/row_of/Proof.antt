@@ -3,12 +3,16 @@ use Prim.Native.Nat.{_≤_, _<_}
 use native.Mathlib.Omega.{arith}
 use mathlib.Core.Path.{_≡_, sym, ap, _∙_}
 use lib.ListN.{length, take}
+use denote.Ref.{now}
 use Rattle.lists.specs.Range.{upTo}
-use Rattle.global.specs.Interfaces.{meaningOf}
-use Rattle.global.specs.Parts.{count, periods, costs, periodOf, costOf}
+use Rattle.table.specs.Limits.{most}
+use Rattle.global.specs.Interfaces.{interfacesIn}
+use Rattle.global.specs.Parts.{count, periods, costs}
 use Rattle.global.specs.Blocking.{outerCeiling}
-use Rattle.global.proofs.Slots.{few-of, few-resources-of, count-of, resources-of}
-use Rattle.global.proofs.SeenLaws.{long-enough, used-part, used-length, shared-periods, shared-costs, shared-ceilings, led-part, own-is, seen-sound, seen-row}
+use Rattle.global.specs.View.{viewOf}
+use Rattle.global.proofs.Slots.{few-of, few-resources-of, resources-of}
+use Rattle.global.proofs.SeenLaws.{long-enough, used-length, led-part, own-is, seen-sound, seen-row}
+use Rattle.global.proofs.LentLaws as lent
 use Rattle.global.proofs.rows.row_of.Statement.{statement}
 use Rattle.global.proofs.rows.row_of.Tie as tie
 
@@ -16,120 +20,130 @@ use Rattle.global.proofs.rows.row_of.Tie as tie
 abbrev Entry : Type 0
 Entry = tie.Start
 
-periods-long : (s : Entry) → s .args .t1 .count ≤ length (s .args .common .periods)
-periods-long s = long-enough _ _ (few-of (s .args .t1) (s .pre .0)) (shared-periods (s .args .t1) (s .args .common) (s .pre .1 .0))
+listed : (s : Entry) → s .args .s < most
+listed s = omega (arith, few-of (s .args .n) (s .args .m) (now (s .args .lines)) (s .pre .0), s .pre .1 .1)
 
-costs-long : (s : Entry) → s .args .t1 .count ≤ length (s .args .common .costs)
-costs-long s = long-enough _ _ (few-of (s .args .t1) (s .pre .0)) (shared-costs (s .args .t1) (s .args .common) (s .pre .1 .0))
+few : (s : Entry) → s .args .m ≤ most
+few s = few-resources-of (s .args .n) (s .args .m) (now (s .args .lines)) (s .pre .0)
 
-ceilings-long : (s : Entry) → s .args .t1 .resources ≤ length (s .args .common .ceilings)
-ceilings-long s =
-    long-enough _ _ (few-resources-of (s .args .t1) (s .pre .0)) (shared-ceilings (s .args .t1) (s .args .common) (s .pre .1 .0))
+periods-long : (s : Entry) → s .args .n ≤ length (s .args .common .periods)
+periods-long s = lent.periods-long (s .args .n) (s .args .m) (now (s .args .lines)) (s .args .common) (s .pre .0) (s .pre .1 .0)
 
-ceilings-used : (s : Entry) → take (s .args .t1 .resources) (s .args .common .ceilings) ≡ upTo (outerCeiling (meaningOf (s .args .t1))) (s .args .t1 .resources)
-ceilings-used s =
-    used-part _ _ (few-resources-of (s .args .t1) (s .pre .0)) (shared-ceilings (s .args .t1) (s .args .common) (s .pre .1 .0))
+costs-long : (s : Entry) → s .args .n ≤ length (s .args .common .costs)
+costs-long s = lent.costs-long (s .args .n) (s .args .m) (now (s .args .lines)) (s .args .common) (s .pre .0) (s .pre .1 .0)
 
-periods-used : (s : Entry) → take (s .args .t1 .count) (s .args .common .periods) ≡ periods (meaningOf (s .args .t1))
-unfolding periods
-periods-used s =
-    used-part _ _ (few-of (s .args .t1) (s .pre .0)) (shared-periods (s .args .t1) (s .args .common) (s .pre .1 .0)) ∙
-    ap (upTo (periodOf (meaningOf (s .args .t1)))) (sym (count-of (s .args .t1)))
+ceilings-long : (s : Entry) → s .args .m ≤ length (s .args .common .ceilings)
+ceilings-long s = lent.ceilings-long (s .args .n) (s .args .m) (now (s .args .lines)) (s .args .common) (s .pre .0) (s .pre .1 .0)
 
-costs-used : (s : Entry) → take (s .args .t1 .count) (s .args .common .costs) ≡ costs (meaningOf (s .args .t1))
-unfolding costs
-costs-used s =
-    used-part _ _ (few-of (s .args .t1) (s .pre .0)) (shared-costs (s .args .t1) (s .args .common) (s .pre .1 .0)) ∙
-    ap (upTo (costOf (meaningOf (s .args .t1)))) (sym (count-of (s .args .t1)))
+ceilings-used : (s : Entry) → take (s .args .m) (s .args .common .ceilings) ≡ upTo (outerCeiling (interfacesIn (s .args .n) (s .args .m) (now (s .args .lines)))) (s .args .m)
+ceilings-used s = lent.ceilings-used (s .args .n) (s .args .m) (now (s .args .lines)) (s .args .common) (s .pre .0) (s .pre .1 .0)
 
-ceilings-seen : (s : Entry) → take (s .args .t1 .resources) (s .args .common .ceilings) ≡ upTo (outerCeiling (meaningOf (s .args .t1))) (meaningOf (s .args .t1) .resources)
-ceilings-seen s = ceilings-used s ∙ ap (upTo (outerCeiling (meaningOf (s .args .t1)))) (sym (resources-of (s .args .t1)))
+periods-used : (s : Entry) → take (s .args .n) (s .args .common .periods) ≡ periods (interfacesIn (s .args .n) (s .args .m) (now (s .args .lines)))
+unfolding viewOf
+periods-used s = lent.periods-lent (s .args .n) (s .args .m) (now (s .args .lines)) (s .args .common) (s .pre .0) (s .pre .1 .0) (s .args .s)
 
-in-use : (s : Entry) → s .args .s < count (meaningOf (s .args .t1))
-in-use s = rw (count-of (s .args .t1)) (s .pre .1 .1)
+costs-used : (s : Entry) → take (s .args .n) (s .args .common .costs) ≡ costs (interfacesIn (s .args .n) (s .args .m) (now (s .args .lines)))
+unfolding viewOf
+costs-used s = lent.costs-lent (s .args .n) (s .args .m) (now (s .args .lines)) (s .args .common) (s .pre .0) (s .pre .1 .0) (s .args .s)
+
+ceilings-seen : (s : Entry) → take (s .args .m) (s .args .common .ceilings) ≡ upTo (outerCeiling (interfacesIn (s .args .n) (s .args .m) (now (s .args .lines)))) ((interfacesIn (s .args .n) (s .args .m) (now (s .args .lines))) .resources)
+ceilings-seen s = ceilings-used s ∙ ap (upTo (outerCeiling (interfacesIn (s .args .n) (s .args .m) (now (s .args .lines))))) (sym (resources-of (s .args .n) (s .args .m) (now (s .args .lines))))
+
+in-use : (s : Entry) → s .args .s < count (interfacesIn (s .args .n) (s .args .m) (now (s .args .lines)))
+in-use s = lent.in-use (s .args .n) (s .args .m) (now (s .args .lines)) (s .args .common) (s .pre .0) (s .pre .1 .0) (s .args .s) (s .pre .1 .1)
 
 -- How many resources the ceilings that are lent have.
-ceilings-count : (s : Entry) → s .args .t1 .resources ≡ length (take (s .args .t1 .resources) (s .args .common .ceilings))
+ceilings-count : (s : Entry) → s .args .m ≡ length (take (s .args .m) (s .args .common .ceilings))
 ceilings-count s = used-length _ _ (ceilings-long s)
 
-held-long : (c : tie.After-leading) → c .before .before .before .before .before .before .args .t1 .resources ≤ length (c .leading .result)
+held-long : (c : tie.After-leading) → c .before .before .before .before .before .args .m ≤ length (c .leading .result)
 held-long c =
-    let n = ceilings-count (c .before .before .before .before .before .before) in
-    omega (arith, n, long-enough _ _ (omega (arith, n, few-resources-of (c .before .before .before .before .before .before .args .t1) (c .before .before .before .before .before .before .pre .0))) (c .leading .ensures))
-
-mul-i : tie.Need-mul-i
-mul-i c = omega (arith, few-of (c .args .t1) (c .pre .0))
-
-element-copy-out-i : tie.Need-element-copy-out-i
-element-copy-out-i c = omega (arith, few-of (c .args .t1) (c .pre .0))
+    let k = ceilings-count (c .before .before .before .before .before) in
+    omega (arith, k, long-enough _ _ (omega (arith, k, few (c .before .before .before .before .before))) (c .leading .ensures))
 
 array-share-prefix-ceilings : tie.Need-array-share-prefix-ceilings
-array-share-prefix-ceilings c = ceilings-long (c .before .before .before .before)
+array-share-prefix-ceilings c = ceilings-long (c .before .before .before)
 
 slice-aggregate-leading : tie.Need-slice-aggregate-leading
-slice-aggregate-leading c = ceilings-count (c .before .before .before .before .before)
+slice-aggregate-leading c = ceilings-count (c .before .before .before .before)
 
 leading-requires : tie.Need-leading-requires
-leading-requires c κs = omega (arith, ceilings-count (c .before .before .before .before .before), few-resources-of (c .before .before .before .before .before .args .t1) (c .before .before .before .before .before .pre .0))
+leading-requires c κs = (listed (c .before .before .before .before), omega (arith, ceilings-count (c .before .before .before .before), few (c .before .before .before .before)))
 
-array-share-prefix-ceilings-2 : tie.Need-array-share-prefix-ceilings-2
-array-share-prefix-ceilings-2 c = ceilings-long (c .before .before .before .before .before .before)
+period-requires : tie.Need-period-requires
+period-requires c κs = listed (c .before .before .before .before .before)
 
-slice-aggregate-blocking-of : tie.Need-slice-aggregate-blocking-of
-slice-aggregate-blocking-of c = ceilings-count (c .before .before .before .before .before .before .before)
-
-blocking-of-requires : tie.Need-blocking-of-requires
-blocking-of-requires c κs = (c .before .before .before .before .before .before .before .pre .0, (ceilings-used (c .before .before .before .before .before .before .before), c .before .before .before .before .before .before .before .pre .1 .1))
-
-array-share-prefix-periods : tie.Need-array-share-prefix-periods
-array-share-prefix-periods c = periods-long (c .before .before .before .before .before .before .before .before)
-
-slice-aggregate-row-seen : tie.Need-slice-aggregate-row-seen
-slice-aggregate-row-seen c = used-length _ _ (periods-long (c .before .before .before .before .before .before .before .before .before))
+budget-requires : tie.Need-budget-requires
+budget-requires c κs = listed (c .before .before .before .before .before .before)
 
 array-share-prefix-costs : tie.Need-array-share-prefix-costs
-array-share-prefix-costs c = costs-long (c .before .before .before .before .before .before .before .before .before)
+array-share-prefix-costs c = costs-long (c .before .before .before .before .before .before .before)
+
+slice-aggregate-blocking-of : tie.Need-slice-aggregate-blocking-of
+slice-aggregate-blocking-of c = used-length _ _ (costs-long (c .before .before .before .before .before .before .before .before))
+
+array-share-prefix-ceilings-2 : tie.Need-array-share-prefix-ceilings-2
+array-share-prefix-ceilings-2 c = ceilings-long (c .before .before .before .before .before .before .before .before)
+
+slice-aggregate-blocking-of-2 : tie.Need-slice-aggregate-blocking-of-2
+slice-aggregate-blocking-of-2 c = ceilings-count (c .before .before .before .before .before .before .before .before .before)
+
+blocking-of-requires : tie.Need-blocking-of-requires
+blocking-of-requires c κs =
+    let s = c .before .before .before .before .before .before .before .before .before in
+    (s .pre .0, (lent.costs-used (s .args .n) (s .args .m) (now (s .args .lines)) (s .args .common) (s .pre .0) (s .pre .1 .0), (ceilings-used s, s .pre .1 .1)))
+
+array-share-prefix-periods : tie.Need-array-share-prefix-periods
+array-share-prefix-periods c = periods-long (c .before .before .before .before .before .before .before .before .before .before)
+
+slice-aggregate-row-seen : tie.Need-slice-aggregate-row-seen
+slice-aggregate-row-seen c = used-length _ _ (periods-long (c .before .before .before .before .before .before .before .before .before .before .before))
+
+array-share-prefix-costs-2 : tie.Need-array-share-prefix-costs-2
+array-share-prefix-costs-2 c = costs-long (c .before .before .before .before .before .before .before .before .before .before .before)
 
 slice-aggregate-row-seen-2 : tie.Need-slice-aggregate-row-seen-2
-slice-aggregate-row-seen-2 c = used-length _ _ (costs-long (c .before .before .before .before .before .before .before .before .before .before))
+slice-aggregate-row-seen-2 c = used-length _ _ (costs-long (c .before .before .before .before .before .before .before .before .before .before .before .before))
 
 array-share-prefix-held : tie.Need-array-share-prefix-held
-array-share-prefix-held c = held-long (c .before .before .before .before)
+array-share-prefix-held c = held-long (c .before .before .before .before .before .before .before)
 
 slice-aggregate-row-seen-3 : tie.Need-slice-aggregate-row-seen-3
-slice-aggregate-row-seen-3 c = used-length _ _ (held-long (c .before .before .before .before .before))
+slice-aggregate-row-seen-3 c = used-length _ _ (held-long (c .before .before .before .before .before .before .before .before))
 
 array-share-prefix-ceilings-3 : tie.Need-array-share-prefix-ceilings-3
-array-share-prefix-ceilings-3 c = ceilings-long (c .before .before .before .before .before .before .before .before .before .before .before)
+array-share-prefix-ceilings-3 c = ceilings-long (c .before .before .before .before .before .before .before .before .before .before .before .before .before)
 
 slice-aggregate-row-seen-4 : tie.Need-slice-aggregate-row-seen-4
-slice-aggregate-row-seen-4 c = ceilings-count (c .before .before .before .before .before .before .before .before .before .before .before .before)
+slice-aggregate-row-seen-4 c = ceilings-count (c .before .before .before .before .before .before .before .before .before .before .before .before .before .before)
 
 row-seen-requires : tie.Need-row-seen-requires
 row-seen-requires c κs =
-    let s = c .before .before .before .before .before .before .before .before .before .before .before .before in
-    seen-sound (meaningOf (s .args .t1)) (s .pre .0) (s .args .s) (in-use s) (periods-used s) (costs-used s) (led-part _ _ (s .pre .1 .1) _ (ceilings-used s) (c .before .before .before .before .before .before .leading .ensures)) (ceilings-seen s) (own-is _ _ (s .pre .1 .1) (c .before .before .before .before .blocking-of .ensures))
+    let s = c .before .before .before .before .before .before .before .before .before .before .before .before .before .before in
+    seen-sound (interfacesIn (s .args .n) (s .args .m) (now (s .args .lines))) (s .pre .0) (s .args .s) (in-use s) (periods-used s) (costs-used s) (led-part (s .args .n) (s .args .m) (now (s .args .lines)) (s .args .s) (s .pre .1 .1) _ (ceilings-used s) (c .before .before .before .before .before .before .before .before .before .leading .ensures)) (ceilings-seen s) (own-is (s .args .n) (s .args .m) (now (s .args .lines)) (s .args .s) (s .pre .1 .1) (c .before .before .before .before .before .before .before .before .period .ensures) (c .before .before .before .before .before .before .before .budget .ensures) (c .before .before .before .before .blocking-of .ensures))
 
 returns : tie.Need-returns
 returns c =
-    let s = c .before .before .before .before .before .before .before .before .before .before .before .before .before in
-    seen-row (meaningOf (s .args .t1)) (s .pre .0) (s .args .s) (in-use s) (periods-used s) (costs-used s) (led-part _ _ (s .pre .1 .1) _ (ceilings-used s) (c .before .before .before .before .before .before .before .leading .ensures)) (ceilings-seen s) (own-is _ _ (s .pre .1 .1) (c .before .before .before .before .before .blocking-of .ensures)) (s .args .failing) (c .row-seen .ensures)
+    let s = c .before .before .before .before .before .before .before .before .before .before .before .before .before .before .before in
+    seen-row (interfacesIn (s .args .n) (s .args .m) (now (s .args .lines))) (s .pre .0) (s .args .s) (in-use s) (periods-used s) (costs-used s) (led-part (s .args .n) (s .args .m) (now (s .args .lines)) (s .args .s) (s .pre .1 .1) _ (ceilings-used s) (c .before .before .before .before .before .before .before .before .before .before .leading .ensures)) (ceilings-seen s) (own-is (s .args .n) (s .args .m) (now (s .args .lines)) (s .args .s) (s .pre .1 .1) (c .before .before .before .before .before .before .before .before .before .period .ensures) (c .before .before .before .before .before .before .before .before .budget .ensures) (c .before .before .before .before .before .blocking-of .ensures)) (s .args .failing) (c .row-seen .ensures)
 
 pub row-of-spec : {M : Type 1} → statement M
 row-of-spec =
     tie.close
     (tie.spec
-    mul-i
-    element-copy-out-i
     array-share-prefix-ceilings
     slice-aggregate-leading
     leading-requires
-    array-share-prefix-ceilings-2
+    period-requires
+    budget-requires
+    array-share-prefix-costs
     slice-aggregate-blocking-of
+    array-share-prefix-ceilings-2
+    slice-aggregate-blocking-of-2
     blocking-of-requires
     array-share-prefix-periods
     slice-aggregate-row-seen
-    array-share-prefix-costs
+    array-share-prefix-costs-2
     slice-aggregate-row-seen-2
     array-share-prefix-held
     slice-aggregate-row-seen-3

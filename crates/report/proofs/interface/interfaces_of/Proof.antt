@@ -1,90 +1,81 @@
-use Prim.Native.Nat.{_≤_, _-_}
-use mathlib.Core.Path.{_≡_, sym, ap, _∙_}
-use lib.ListN.{length, length-set}
-use Rattle.table.specs.Limits.{most}
-use Rattle.report.proofs.InterfaceLaws.{Filled, none-filled, one-more-filled, all-filled, sound-slot, few-subsystems}
+-- `report::interface::interfaces_of` meets its contract. Assumes nothing.
 use borrow.Author.Needs.{needs}
+use Prim.Native.Nat.{_-_, _≤_}
 use native.Mathlib.Omega.{arith}
+use Rattle.table.specs.Limits.{most}
+use Rattle.report.proofs.InterfaceLaws.{LinesTo, lines-begin, lines-more, lines-are-all, sound-slot, held-slot, few-subsystems}
 use Rattle.report.proofs.interface.interfaces_of.Statement.{statement}
 use Rattle.report.proofs.interface.interfaces_of.Tie as tie
 use Rattle.report.proofs.interface.interfaces_of.Reads as reads
 use Rattle.report.proofs.interface.interfaces_of.Lts as lts
-use Rattle.numbers.proofs.index.Reads as index-reads
 use Rattle.report.proofs.interface.interface_of.Reads as interface-of-reads
 
 abbrev Inv-loop : tie.InvT-loop
-Inv-loop t n m interfaces₀ s₀ interfaces s =
-    (n ≡ t .count) × (m ≡ t .resources) × (s ≤ n) × (n ≤ most) × (length interfaces ≡ most) × Filled t m interfaces s
+Inv-loop grid n m holdings lines₀ s₀ lines s = (n ≤ most) × (s ≤ n) × LinesTo n m grid lines s
 
 abbrev μ-loop : tie.MeasureT-loop
-μ-loop t n m interfaces₀ s₀ interfaces s = n - s
+μ-loop grid n m holdings lines₀ s₀ lines s = n - s
 
--- src/interface.rt:37:9
-index-requires : tie.Need-index-requires Inv-loop μ-loop
-index-requires c κs = search needs
-
--- src/interface.rt:38:9
-index-requires-2 : tie.Need-index-requires-2 Inv-loop μ-loop
-index-requires-2 c κs = search needs
-
--- src/interface.rt:46:5
+-- src/interface.rt:56:5
 loop-holds : tie.Need-loop-holds Inv-loop μ-loop
-loop-holds c = (
-  search needs,
-  search needs,
-  search needs,
-  omega (arith, few-subsystems (c .before .before .args .t1) (c .before .before .pre) .0),
-  search needs,
-  none-filled _ _ _,
-)
+loop-holds c = (few-subsystems _ _ _ (c .pre .0) .0, search needs, lines-begin _ _ _ _ (c .pre .1 .1))
 
--- src/interface.rt:47:19
-mul-sub : tie.Need-mul-sub Inv-loop μ-loop
-mul-sub c = omega arith
+-- src/interface.rt:57:33
+mul-interface-of : tie.Need-mul-interface-of Inv-loop μ-loop
+mul-interface-of c = search needs
 
--- src/interface.rt:47:19
-element-copy-out-sub : tie.Need-element-copy-out-sub Inv-loop μ-loop
-element-copy-out-sub c = omega arith
+-- src/interface.rt:57:33
+index-1-interface-of : tie.Need-index-1-interface-of Inv-loop μ-loop
+index-1-interface-of c = search needs
 
--- src/interface.rt:48:25
+-- src/interface.rt:57:46
+mul-interface-of-2 : tie.Need-mul-interface-of-2 Inv-loop μ-loop
+mul-interface-of-2 c = search needs
+
+-- src/interface.rt:57:46
+index-1-interface-of-2 : tie.Need-index-1-interface-of-2 Inv-loop μ-loop
+index-1-interface-of-2 c = search needs
+
+-- src/interface.rt:57:13
 interface-of-requires : tie.Need-interface-of-requires Inv-loop μ-loop
 interface-of-requires c κs =
-    sound-slot (c .before .before .before .before .before .args .t1) (c .before .before .loop .s) _ (c .before .before .before .before .before .pre) (omega arith) (c .before .before .loop .inv .1)
+    let k = c .before .before .before in
+    let s = k .before in
+    let below = c .before .before .loop-test .taken in (
+      sound-slot (s .args .n) (s .args .m) (s .args .grid .now) (k .loop .s) below (s .pre .0),
+      held-slot (s .args .n) (s .args .m) (s .args .grid .now) (k .loop .s) below (s .args .holdings .now) (s .pre .1 .0),
+    )
 
--- src/interface.rt:48:9
-mul-interfaces : tie.Need-mul-interfaces Inv-loop μ-loop
-mul-interfaces c = omega arith
+-- src/interface.rt:58:9
+mul-line : tie.Need-mul-line Inv-loop μ-loop
+mul-line c = search needs
 
--- src/interface.rt:48:9
-array-set-from-interfaces : tie.Need-array-set-from-interfaces Inv-loop μ-loop
-array-set-from-interfaces c = omega arith
+-- src/interface.rt:58:9
+element-set-from-line : tie.Need-element-set-from-line Inv-loop μ-loop
+element-set-from-line c = search needs
 
--- src/interface.rt:49:9
+-- src/interface.rt:59:9
 add-s : tie.Need-add-s Inv-loop μ-loop
 add-s c = search needs
 
--- src/interface.rt:46:5
+-- src/interface.rt:56:5
 loop-less : tie.Need-loop-less Inv-loop μ-loop
 loop-less c = search needs
 
--- src/interface.rt:46:5
+-- src/interface.rt:56:5
 loop-again : tie.Need-loop-again Inv-loop μ-loop
-loop-again c = (
-  search needs,
-  search needs,
-  search needs,
-  search needs,
-  simp length-set (search needs),
-  one-more-filled (c .before .before .before .before .before .before .args .t1) _ (c .before .before .before .loop .interfaces) (c .before .before .before .loop .s) (c .interface-of .result) (omega arith) (omega arith) (c .before .before .before .loop .inv .1) (c .interface-of .ensures) (c .before .before .before .loop .inv .5),
-)
+loop-again c =
+    let k = c .before .before .before .before in
+    let s = k .before in
+    let below = c .before .before .before .loop-test .taken in
+    (k .loop .inv .0, search needs, lines-more (s .args .n) (s .args .m) (s .args .grid .now) (k .loop .lines) (k .loop .s) _ (omega (arith, below, k .loop .inv .0)) (k .loop .inv .2) (c .interface-of .ensures))
 
--- src/interface.rt:33:1
+-- src/interface.rt:43:1
 returns : tie.Need-returns Inv-loop μ-loop
 returns c =
-    let n = c .before .before .before .index .result in
-    let end : n ≡ c .before .loop .s = omega arith in
-    all-filled (c .before .before .before .before .args .t1) n _ (c .before .loop .interfaces) (c .before .loop .inv .0) (c .before .loop .inv .1)
-    (rw end (c .before .loop .inv .5))
+    let k = c .before in
+    let s = k .before in
+    lines-are-all (s .args .n) (s .args .m) (s .args .grid .now) (k .loop .lines) (k .loop .s) (omega (arith, c .loop-test .left, k .loop .inv .1)) (k .loop .inv .2)
 
 pub interfaces-of-spec : {M : Type 1} → statement M
 interfaces-of-spec =
@@ -92,14 +83,14 @@ interfaces-of-spec =
     (tie.spec
     Inv-loop
     μ-loop
-    index-requires
-    index-requires-2
     loop-holds
-    mul-sub
-    element-copy-out-sub
+    mul-interface-of
+    index-1-interface-of
+    mul-interface-of-2
+    index-1-interface-of-2
     interface-of-requires
-    mul-interfaces
-    array-set-from-interfaces
+    mul-line
+    element-set-from-line
     add-s
     loop-less
     loop-again

@@ -1,90 +1,91 @@
--- `report::jobs::job_end` meets its contract: each test settles a case of the definition. Assumes nothing.
-use Prim.Native.Nat.{ℕ, _-_}
-use native.Mathlib.Nat.{pos-of-ne-zero}
-use native.Mathlib.Omega.{arith}
-use mathlib.Core.Path.{sym, ap, ap₂, _∙_}
+-- `report::jobs::job_end` meets its contract. Assumes nothing.
 use borrow.Author.Needs.{needs}
-use Rattle.table.specs.Meaning.{meaning}
-use Rattle.rules.specs.Admitted.{SoundSystem}
-use Rattle.rules.proofs.Sound.{admitted-is-sound}
-use Rattle.global.specs.Interfaces.{InterfacesM}
-use Rattle.global.specs.View.{viewOf}
-use Rattle.report.specs.Jobs.{endOf}
-use Rattle.report.proofs.RowsLaws.{as-many-interfaces, sound-interfaces}
-use Rattle.report.proofs.JobsLaws.{refused-ends, subsystem-0, past-subsystems, ends-in, count-of-table}
+use Prim.Native.Nat.{ℕ}
+use mathlib.Core.Path.{sym, ap, ap₂, _∙_}
+use Rattle.table.specs.Meaning.{System, meaning}
+use Rattle.table.proofs.GridLaws.{blank-blocks}
+use Rattle.rules.specs.Rules.{countsJudged}
+use Rattle.rules.proofs.OrderLaws.{refusal-stands, counts-first, has-room, laid-out-means}
+use Rattle.report.specs.Jobs.{jobEndOf}
+use Rattle.report.proofs.JobsLaws.{refused-ends}
 use Rattle.report.proofs.jobs.job_end.Statement.{statement}
 use Rattle.report.proofs.jobs.job_end.Tie as tie
+use Rattle.report.proofs.jobs.job_end.Reads as reads
+use Rattle.report.proofs.jobs.job_end.Lts as lts
+use Rattle.numbers.proofs.index.Reads as index-reads
+use Rattle.report.proofs.jobs.end_in_grid.Reads as end-in-grid-reads
+use Rattle.rules.proofs.judging.judge_counts.Reads as judge-counts-reads
+use Rattle.table.proofs.grid.lay_out.Reads as lay-out-reads
 
--- An admitted table is sound.
-sound : (c : tie.Else2) → SoundSystem (meaning (c .before .before .before .before .before .before .args .t))
-sound c = admitted-is-sound _ (sym (c .before .before .before .before .before .judge .ensures) ∙ c .before .before .before .enum-told .given .1)
-
-judge-requires : tie.Need-judge-requires
-judge-requires c κs = search needs
+-- src/jobs.rt:98:9
+judge-counts-requires : tie.Need-judge-counts-requires
+judge-counts-requires c κs = search needs
 
 enum-told : tie.Need-enum-told
 enum-told c = search needs
 
+-- src/jobs.rt:100:9
 enum-told-2 : tie.Need-enum-told-2
 enum-told-2 c = search needs
 
+-- src/jobs.rt:100:9
 returns : tie.Need-returns
-returns c = refused-ends _ (c .before .before .before .args .k) (c .before .before .before .args .l) (c .before .before .before .args .s) (c .before .before .judge .ensures) (c .enum-told2 .given .1)
+returns c =
+    let s = c .before .before .before in
+    refused-ends _ (s .args .k) (s .args .l) (s .args .s) (refusal-stands _ _ _ _ _ (c .before .before .judge-counts .ensures) (c .enum-told2 .given .1) ∙ counts-first _) (c .enum-told2 .given .1)
 
-returns-2 : tie.Need-returns-2
-returns-2 c =
-    subsystem-0 _ (c .before .before .before .before .args .k) (c .before .before .before .before .args .l) (c .before .before .before .judge .ensures) (c .before .enum-told .given .1) (c .before .before .before .before .args .s) (c .if1 .taken)
+-- src/jobs.rt:103:5
+lay-out-requires : tie.Need-lay-out-requires
+lay-out-requires c κs =
+    let counts = c .before .before .before .judge-counts .ensures in
+    (has-room _ (sym counts ∙ c .before .enum-told .given .1), blank-blocks)
 
-returns-3 : tie.Need-returns-3
-returns-3 c =
-    past-subsystems _ (c .before .before .before .before .before .before .args .k) (c .before .before .before .before .before .before .args .l) (c .before .before .before .before .before .judge .ensures) (c .before .before .before .enum-told .given .1) (c .before .before .before .before .before .before .args .s) (omega (arith, count-of-table (c .before .before .before .before .before .before .args .t), c .if2 .taken))
-
-interfaces-of-requires : tie.Need-interfaces-of-requires
-interfaces-of-requires c κs = sound c
-
-in-common-requires : tie.Need-in-common-requires
-in-common-requires c κs = sound-interfaces (c .before .before .before .before .before .before .before .args .t) _ (sound (c .before)) (c .interfaces-of .ensures)
-
+-- src/jobs.rt:104:24
 index-requires : tie.Need-index-requires
 index-requires c κs = search needs
 
-sub-end-of : tie.Need-sub-end-of
-sub-end-of c = omega (arith, c .index .ensures .0, pos-of-ne-zero (c .before .before .before .before .before .if1 .left))
-
+-- src/jobs.rt:104:40
 index-requires-2 : tie.Need-index-requires-2
 index-requires-2 c κs = search needs
 
-end-of-requires : tie.Need-end-of-requires
-end-of-requires c κs = (
-  sound-interfaces (c .before .before .before .before .before .before .before .before .before .before .args .t) _ (sound (c .before .before .before .before)) (c .before .before .before .interfaces-of .ensures),
-  (
-    c .before .before .in-common .ensures,
-    omega (arith, as-many-interfaces (c .before .before .before .before .before .before .before .before .before .before .args .t) _ (c .before .before .before .interfaces-of .ensures), c .before .index .ensures .0, pos-of-ne-zero (c .before .before .before .before .before .before .if1 .left), c .before .before .before .before .if2 .left),
-  ),
-)
+-- src/jobs.rt:104:60
+index-requires-3 : tie.Need-index-requires-3
+index-requires-3 c κs = search needs
 
-returns-4 : tie.Need-returns-4
-returns-4 c =
-    let s = c .before .before .before .before .before .before .before .before .before .before .before in
-    ends-in _ (s .args .k) (s .args .l) (c .before .before .before .before .before .before .before .before .before .before .judge .ensures) (c .before .before .before .before .before .before .before .before .enum-told .given .1) (s .args .s) (pos-of-ne-zero (c .before .before .before .before .before .before .before .if1 .left)) (omega (arith, count-of-table (s .args .t), c .before .before .before .before .before .if2 .left))
-    (c .end-of .ensures ∙
-    ap₂ (λ (g : InterfacesM) (r : ℕ). endOf (viewOf g (r - 1)) (s .args .k) (c .before .index2 .result)) (c .before .before .before .before .interfaces-of .ensures) (c .before .before .index .ensures .0) ∙
-    ap (endOf _ (s .args .k)) (c .before .index2 .ensures .0))
+-- src/jobs.rt:104:73
+index-requires-4 : tie.Need-index-requires-4
+index-requires-4 c κs = search needs
+
+-- src/jobs.rt:104:5
+end-in-grid-requires : tie.Need-end-in-grid-requires
+end-in-grid-requires c κs =
+    let l = c .before .before .before .before .before in
+    let counts = l .before .before .before .before .judge-counts .ensures in
+    let means = laid-out-means _ _ (l .lay-out .ensures) _ _ (c .before .before .before .index .ensures .0) (c .before .before .index2 .ensures .0) in
+    ap countsJudged means ∙ sym counts ∙ l .before .before .enum-told .given .1
+
+-- src/jobs.rt:95:1
+returns-2 : tie.Need-returns-2
+returns-2 c =
+    let l = c .before .before .before .before .before .before in
+    let s = l .before .before .before .before .before in
+    let means = laid-out-means _ _ (l .lay-out .ensures) _ _ (c .before .before .before .before .index .ensures .0) (c .before .before .before .index2 .ensures .0) in
+    c .end-in-grid .ensures ∙
+    ap (λ (sys : System). jobEndOf sys (c .before .before .index3 .result) (s .args .k) (c .before .index4 .result)) means ∙
+    ap₂ (λ (i j : ℕ). jobEndOf (meaning (s .args .t)) i (s .args .k) j) (c .before .before .index3 .ensures .0) (c .before .index4 .ensures .0)
 
 pub job-end-spec : {M : Type 1} → statement M
 job-end-spec =
     tie.close
     (tie.spec
-    judge-requires
+    judge-counts-requires
     enum-told
     enum-told-2
     returns
-    returns-2
-    returns-3
-    interfaces-of-requires
-    in-common-requires
+    lay-out-requires
     index-requires
-    sub-end-of
     index-requires-2
-    end-of-requires
-    returns-4)
+    index-requires-3
+    index-requires-4
+    end-in-grid-requires
+    returns-2)

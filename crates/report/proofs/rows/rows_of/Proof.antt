@@ -1,136 +1,154 @@
-use Prim.Native.Nat.{ℕ, _≤_, _-_}
-use mathlib.Core.Path.{_≡_, sym, ap, _∙_}
+-- `report::rows::rows_of` meets its contract. Assumes nothing.
+use borrow.Author.Needs.{needs}
+use Prim.Native.Nat.{_-_, _≤_}
+use native.Mathlib.Omega.{arith}
+use mathlib.Core.Path.{_≡_, refl, sym, ap, _∙_}
 use Rattle.lists.specs.Range.{padded}
 use Rattle.lists.proofs.UpTo.{padded-none}
 use Rattle.table.specs.Limits.{most}
-use lib.ListN.{getD}
-use Rattle.table.specs.Meaning.{meaning, subsystemM, pastSubsystems}
-use Rattle.local.specs.Passing.{firstFailing}
-use Rattle.global.specs.declared.ceilings.Common.{Common}
-use Rattle.global.specs.Interfaces.{meaningOf}
+use Rattle.table.specs.Grid.{systemIn}
 use Rattle.report.specs.Report.{rowAt, noRow}
-use Rattle.report.proofs.InterfaceLaws.{few-subsystems, sound-slot}
-use Rattle.report.proofs.RowsLaws.{ready, end-by-cost, row-filled, as-many-interfaces, sound-interfaces, cost-between}
-use borrow.Author.Needs.{needs}
-use native.Mathlib.Omega.{arith}
+use Rattle.report.proofs.InterfaceLaws.{few-subsystems, sound-lines}
+use Rattle.report.proofs.RowsLaws.{cost-from-budget, cost-to-period, ready-by-cost, row-filled}
 use Rattle.report.proofs.rows.rows_of.Statement.{statement}
 use Rattle.report.proofs.rows.rows_of.Tie as tie
 use Rattle.report.proofs.rows.rows_of.Reads as reads
 use Rattle.report.proofs.rows.rows_of.Lts as lts
 use Rattle.global.proofs.in_common.Reads as in-common-reads
 use Rattle.global.proofs.row_of.Reads as row-of-reads
-use Rattle.report.proofs.rows.failing_in.Reads as failing-in-reads
-use Rattle.numbers.proofs.index.Reads as index-reads
+use Rattle.local.proofs.first_failing_task.Reads as first-failing-task-reads
 use Rattle.report.proofs.interface.interfaces_of.Reads as interfaces-of-reads
 use Rattle.report.proofs.rows.no_row.Reads as no-row-reads
+use Rattle.table.proofs.grid.budget.Reads as budget-reads
+use Rattle.table.proofs.grid.period.Reads as period-reads
 
 abbrev Inv-loop : tie.InvT-loop
-Inv-loop t n m g common costs rows₀ s₀ rows s =
-    (n ≡ t .count) × (m ≡ t .resources) × (n ≤ most) × (s ≤ n) × (rows ≡ padded (rowAt (meaning t)) noRow most s)
+Inv-loop grid n m holdings lines common costs rows₀ s₀ rows s = (n ≤ most) × (s ≤ n) × (rows ≡ padded (rowAt (systemIn n m grid)) noRow most s)
 
 abbrev μ-loop : tie.MeasureT-loop
-μ-loop t n m g common costs rows₀ s₀ rows s = n - s
+μ-loop grid n m holdings lines common costs rows₀ s₀ rows s = n - s
 
--- src/rows.rt:34:9
-index-requires : tie.Need-index-requires Inv-loop μ-loop
-index-requires c κs = search needs
-
--- src/rows.rt:35:9
-index-requires-2 : tie.Need-index-requires-2 Inv-loop μ-loop
-index-requires-2 c κs = search needs
-
--- src/rows.rt:36:9
+-- src/rows.rt:49:5
 interfaces-of-requires : tie.Need-interfaces-of-requires Inv-loop μ-loop
-interfaces-of-requires c κs = search needs
+interfaces-of-requires c κs = (c .before .pre .0, (c .before .pre .1, refl))
 
--- src/rows.rt:37:9
+-- src/rows.rt:50:9
 in-common-requires : tie.Need-in-common-requires Inv-loop μ-loop
-in-common-requires c κs = sound-interfaces (c .before .before .before .args .t1) _ (c .before .before .before .pre) (c .interfaces-of .ensures)
+in-common-requires c κs = sound-lines _ _ _ _ (c .before .interfaces-of .ensures) (c .before .before .before .pre .0)
 
--- src/rows.rt:39:21
+-- src/rows.rt:52:21
 no-row-requires : tie.Need-no-row-requires Inv-loop μ-loop
 no-row-requires c κs = search needs
 
--- src/rows.rt:41:5
+-- src/rows.rt:54:5
 loop-holds : tie.Need-loop-holds Inv-loop μ-loop
-loop-holds c = (search needs, search needs, omega (arith, few-subsystems (c .before .before .before .before .before .before .args .t1) (c .before .before .before .before .before .before .pre) .0), search needs, rw (c .no-row .ensures) (sym (padded-none _ _ _)))
+loop-holds c = (few-subsystems _ _ _ (c .before .before .before .before .before .before .pre .0) .0, search needs, rw (c .no-row .ensures) (sym (padded-none _ _ _)))
 
--- src/rows.rt:42:19
-mul-sub : tie.Need-mul-sub Inv-loop μ-loop
-mul-sub c = search needs
+-- src/rows.rt:55:21
+mul-block : tie.Need-mul-block Inv-loop μ-loop
+mul-block c = search needs
 
--- src/rows.rt:42:19
-element-copy-out-sub : tie.Need-element-copy-out-sub Inv-loop μ-loop
-element-copy-out-sub c = search needs
+-- src/rows.rt:55:13
+index-1-block : tie.Need-index-1-block Inv-loop μ-loop
+index-1-block c = search needs
 
--- src/rows.rt:43:33
+-- src/rows.rt:56:19
+period-requires : tie.Need-period-requires Inv-loop μ-loop
+period-requires c κs = search needs
+
+-- src/rows.rt:56:36
 mul-end : tie.Need-mul-end Inv-loop μ-loop
 mul-end c = search needs
 
--- src/rows.rt:43:33
+-- src/rows.rt:56:36
 array-read-end : tie.Need-array-read-end Inv-loop μ-loop
 array-read-end c = search needs
 
--- src/rows.rt:43:33
+-- src/rows.rt:56:47
+budget-requires : tie.Need-budget-requires Inv-loop μ-loop
+budget-requires c κs = search needs
+
+-- src/rows.rt:56:36
 sub-end : tie.Need-sub-end Inv-loop μ-loop
 sub-end c =
-    cost-between (c .before .before .before .before .before .before .before .before .before .before .args .t1) (meaningOf (c .before .before .before .before .before .before .before .interfaces-of .result)) (c .before .before .before .loop .s) (c .before .before .before .before .before .before .before .before .index2 .result) (getD (c .before .before .before .before .before .before .in-common .result .costs) (c .before .before .before .loop .s) 0) (sound-slot (c .before .before .before .before .before .before .before .before .before .before .args .t1) (c .before .before .before .loop .s) (c .before .before .before .before .before .before .before .before .index2 .result) (c .before .before .before .before .before .before .before .before .before .before .pre) (omega arith) (c .before .before .before .loop .inv .1)) (c .before .before .before .before .before .before .before .interfaces-of .ensures) (omega arith) (c .before .before .before .loop .inv .1) (ap (λ (w : Common). getD (w .costs) (c .before .before .before .loop .s) 0) (c .before .before .before .before .before .before .in-common .ensures)) .0
+    let b = c in
+    let k = b .before .before .before .before in
+    let ic = k .before .before .before in
+    let io = ic .before .before in
+    let s = io .before .before in
+    let below = b .before .before .before .loop-test .taken in
+    cost-from-budget (s .args .n) (s .args .m) (s .args .grid .now) (k .loop .s) below _ _ (io .interfaces-of .ensures) (ic .in-common .ensures) _ _ (b .before .period .ensures) (b .budget .ensures)
 
--- src/rows.rt:43:19
+-- src/rows.rt:56:19
 sub-end-2 : tie.Need-sub-end-2 Inv-loop μ-loop
 sub-end-2 c =
-    omega (arith, cost-between (c .before .before .before .before .before .before .before .before .before .before .before .args .t1) (meaningOf (c .before .before .before .before .before .before .before .before .interfaces-of .result)) (c .before .before .before .before .loop .s) (c .before .before .before .before .before .before .before .before .before .index2 .result) (getD (c .before .before .before .before .before .before .before .in-common .result .costs) (c .before .before .before .before .loop .s) 0) (sound-slot (c .before .before .before .before .before .before .before .before .before .before .before .args .t1) (c .before .before .before .before .loop .s) (c .before .before .before .before .before .before .before .before .before .index2 .result) (c .before .before .before .before .before .before .before .before .before .before .before .pre) (omega arith) (c .before .before .before .before .loop .inv .1)) (c .before .before .before .before .before .before .before .before .interfaces-of .ensures) (omega arith) (c .before .before .before .before .loop .inv .1) (ap (λ (w : Common). getD (w .costs) (c .before .before .before .before .loop .s) 0) (c .before .before .before .before .before .before .before .in-common .ensures)) .1)
+    let b = c in
+    let k = b .before .before .before .before in
+    let ic = k .before .before .before in
+    let io = ic .before .before in
+    let s = io .before .before in
+    let below = b .before .before .before .loop-test .taken in
+    omega (arith, cost-to-period (s .args .n) (s .args .m) (s .args .grid .now) (k .loop .s) below _ _ (io .interfaces-of .ensures) (ic .in-common .ensures) _ _ (b .before .period .ensures) (b .budget .ensures) (s .pre .0))
 
--- src/rows.rt:44:13
-failing-in-requires : tie.Need-failing-in-requires Inv-loop μ-loop
-failing-in-requires c κs =
-    rw (end-by-cost (c .before .before .before .before .before .before .before .before .before .before .before .args .t1) (meaningOf (c .before .before .before .before .before .before .before .before .interfaces-of .result)) (c .before .before .before .before .loop .s) (c .before .before .before .before .before .before .before .before .before .index2 .result) (getD (c .before .before .before .before .before .before .before .in-common .result .costs) (c .before .before .before .before .loop .s) 0) (c .before .before .before .before .before .before .before .before .interfaces-of .ensures) (omega arith) (c .before .before .before .before .loop .inv .1) (ap (λ (w : Common). getD (w .costs) (c .before .before .before .before .loop .s) 0) (c .before .before .before .before .before .before .before .in-common .ensures))) (ready _ _ (sound-slot (c .before .before .before .before .before .before .before .before .before .before .before .args .t1) (c .before .before .before .before .loop .s) (c .before .before .before .before .before .before .before .before .before .index2 .result) (c .before .before .before .before .before .before .before .before .before .before .before .pre) (omega arith) (c .before .before .before .before .loop .inv .1)))
+-- src/rows.rt:57:13
+first-failing-task-requires : tie.Need-first-failing-task-requires Inv-loop μ-loop
+first-failing-task-requires c κs =
+    let b = c in
+    let k = b .before .before .before .before in
+    let ic = k .before .before .before in
+    let io = ic .before .before in
+    let s = io .before .before in
+    let below = b .before .before .before .loop-test .taken in
+    ready-by-cost (s .args .n) (s .args .m) (s .args .grid .now) (k .loop .s) below _ _ (io .interfaces-of .ensures) (ic .in-common .ensures) _ _ (b .before .period .ensures) (b .budget .ensures) (s .pre .0)
 
--- src/rows.rt:45:48
+-- src/rows.rt:58:59
 cast-row-of : tie.Need-cast-row-of Inv-loop μ-loop
 cast-row-of c = search needs
 
--- src/rows.rt:45:19
+-- src/rows.rt:58:19
 row-of-requires : tie.Need-row-of-requires Inv-loop μ-loop
-row-of-requires c κs = (
-  sound-interfaces (c .before .before .before .before .before .before .before .before .before .before .before .before .args .t1) _ (c .before .before .before .before .before .before .before .before .before .before .before .before .pre) (c .before .before .before .before .before .before .before .before .before .interfaces-of .ensures),
-  (
-    c .before .before .before .before .before .before .before .before .in-common .ensures,
-    omega (arith, as-many-interfaces (c .before .before .before .before .before .before .before .before .before .before .before .before .args .t1) _ (c .before .before .before .before .before .before .before .before .before .interfaces-of .ensures)),
-  ),
-)
+row-of-requires c κs =
+    let b = c .before .before in
+    let k = b .before .before .before .before in
+    let ic = k .before .before .before in
+    let io = ic .before .before in
+    let s = io .before .before in
+    let below = b .before .before .before .loop-test .taken in
+    (sound-lines _ _ _ _ (io .interfaces-of .ensures) (s .pre .0), (ic .in-common .ensures, below))
 
--- src/rows.rt:45:9
+-- src/rows.rt:58:9
 mul-rows : tie.Need-mul-rows Inv-loop μ-loop
 mul-rows c = search needs
 
--- src/rows.rt:45:9
+-- src/rows.rt:58:9
 array-set-from-rows : tie.Need-array-set-from-rows Inv-loop μ-loop
 array-set-from-rows c = search needs
 
--- src/rows.rt:46:9
+-- src/rows.rt:59:9
 add-s : tie.Need-add-s Inv-loop μ-loop
 add-s c = search needs
 
--- src/rows.rt:41:5
+-- src/rows.rt:54:5
 loop-less : tie.Need-loop-less Inv-loop μ-loop
 loop-less c = search needs
 
--- src/rows.rt:41:5
+-- src/rows.rt:54:5
 loop-again : tie.Need-loop-again Inv-loop μ-loop
-loop-again c = (
-  search needs,
-  search needs,
-  search needs,
-  search needs,
-  row-filled (c .before .before .before .before .before .before .before .before .before .before .before .before .before .args .t1) (meaningOf (c .before .before .before .before .before .before .before .before .before .before .interfaces-of .result)) (c .before .before .before .before .before .before .loop .s) (c .before .before .before .before .before .before .before .before .before .before .before .index2 .result) _ _ _ (c .before .before .before .before .before .before .before .before .before .before .interfaces-of .ensures) (omega arith) (omega arith) (c .before .before .before .before .before .before .loop .inv .1)
-      (c .before .failing-in .ensures ∙ ap (λ (end : ℕ). firstFailing (c .before .before .before .before .before .before .before .before .before .before .before .index2 .result) (subsystemM (c .before .before .before .before .before .before .before .before .before .before .before .index2 .result) (getD ((c .before .before .before .before .before .before .before .before .before .before .before .before .before .args .t1) .subsystems) (c .before .before .before .before .before .before .loop .s) pastSubsystems)) end) (end-by-cost (c .before .before .before .before .before .before .before .before .before .before .before .before .before .args .t1) (meaningOf (c .before .before .before .before .before .before .before .before .before .before .interfaces-of .result)) (c .before .before .before .before .before .before .loop .s) (c .before .before .before .before .before .before .before .before .before .before .before .index2 .result) (getD (c .before .before .before .before .before .before .before .before .before .in-common .result .costs) (c .before .before .before .before .before .before .loop .s) 0) (c .before .before .before .before .before .before .before .before .before .before .interfaces-of .ensures) (omega arith) (c .before .before .before .before .before .before .loop .inv .1) (ap (λ (w : Common). getD (w .costs) (c .before .before .before .before .before .before .loop .s) 0) (c .before .before .before .before .before .before .before .before .before .in-common .ensures))))
-      (c .row-of .ensures) (c .before .before .before .before .before .before .loop .inv .4),
-)
+loop-again c =
+    let b = c .before .before .before in
+    let k = b .before .before .before .before in
+    let ic = k .before .before .before in
+    let io = ic .before .before in
+    let s = io .before .before in
+    let below = b .before .before .before .loop-test .taken in
+    (k .loop .inv .0, omega (arith, below), row-filled (s .args .n) (s .args .m) (s .args .grid .now) (k .loop .s) below _ _ (io .interfaces-of .ensures) (ic .in-common .ensures) _ _ (b .before .period .ensures) (b .budget .ensures) _ _ _ (k .loop .inv .0) (c .before .before .first-failing-task .ensures) (c .row-of .ensures) (k .loop .inv .2))
 
--- src/rows.rt:30:1
+-- src/rows.rt:38:1
 returns : tie.Need-returns Inv-loop μ-loop
-returns c = c .before .loop .inv .4 ∙ ap (padded (rowAt (meaning (c .before .before .before .before .before .before .before .before .args .t1))) noRow most) (omega arith)
+returns c =
+    let k = c .before in
+    let s = k .before .before .before .before .before .before .before in
+    k .loop .inv .2 ∙ ap (padded (rowAt (systemIn (s .args .n) (s .args .m) (s .args .grid .now))) noRow most) (omega (arith, c .loop-test .left, k .loop .inv .1))
 
 pub rows-of-spec : {M : Type 1} → statement M
 rows-of-spec =
@@ -138,19 +156,19 @@ rows-of-spec =
     (tie.spec
     Inv-loop
     μ-loop
-    index-requires
-    index-requires-2
     interfaces-of-requires
     in-common-requires
     no-row-requires
     loop-holds
-    mul-sub
-    element-copy-out-sub
+    mul-block
+    index-1-block
+    period-requires
     mul-end
     array-read-end
+    budget-requires
     sub-end
     sub-end-2
-    failing-in-requires
+    first-failing-task-requires
     cast-row-of
     row-of-requires
     mul-rows

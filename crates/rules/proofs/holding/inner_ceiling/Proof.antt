@@ -1,78 +1,69 @@
--- `rules::holding::inner_ceiling` gives the inner ceiling: the first user among the tasks that are left decides.
--- Assumes nothing.
-use Prim.Native.Nat.{ℕ, _≤_, _-_}
-use mathlib.Core.Path.{_≡_, ap, _∙_}
-use Rattle.rules.proofs.HoldingLaws.{CeilingFrom, ceiling-from-zero, ceiling-here, ceiling-next, ceiling-over}
+-- `rules::holding::inner_ceiling` meets its contract. Assumes nothing.
 use borrow.Author.Needs.{needs}
+use Prim.Native.Nat.{ℕ}
+use mathlib.Core.Path.{ap, _∙_}
+use Prim.Native.Nat.{_-_, _≤_}
 use native.Mathlib.Omega.{arith}
+use mathlib.Core.Path.{_≡_}
+use Rattle.table.specs.Grid.{countIn}
+use Rattle.rules.proofs.HoldingLaws.{CeilingFrom, ceiling-from-zero, ceiling-here, ceiling-next, ceiling-over}
 use Rattle.rules.proofs.holding.inner_ceiling.Statement.{statement}
 use Rattle.rules.proofs.holding.inner_ceiling.Tie as tie
 use Rattle.rules.proofs.holding.inner_ceiling.Reads as reads
 use Rattle.rules.proofs.holding.inner_ceiling.Lts as lts
-use Rattle.numbers.proofs.index.Reads as index-reads
+use Rattle.table.proofs.grid.access.Reads as access-reads
+use Rattle.table.proofs.grid.count.Reads as count-reads
 
 abbrev Inv-loop : tie.InvT-loop
-Inv-loop sub m l accesses i₀ i = (i ≤ sub .count) × CeilingFrom m sub l i
+Inv-loop block m l n i₀ i = (n ≡ countIn block) × (i ≤ n) × CeilingFrom block l i
 
 abbrev μ-loop : tie.MeasureT-loop
-μ-loop sub m l accesses i₀ i = sub .count - i
+μ-loop block m l n i₀ i = n - i
 
--- src/holding.rt:30:5
+-- src/holding.rt:31:9
+count-requires : tie.Need-count-requires Inv-loop μ-loop
+count-requires c κs = search needs
+
+-- src/holding.rt:33:5
 loop-holds : tie.Need-loop-holds Inv-loop μ-loop
-loop-holds c = (search needs, ceiling-from-zero _ _ _)
+loop-holds c = (search needs, search needs, ceiling-from-zero _ _)
 
--- src/holding.rt:30:15
-index-requires : tie.Need-index-requires Inv-loop μ-loop
-index-requires c κs = search needs
+-- src/holding.rt:34:16
+access-requires : tie.Need-access-requires Inv-loop μ-loop
+access-requires c κs = search needs
 
--- src/holding.rt:31:16
-mul-if2 : tie.Need-mul-if2 Inv-loop μ-loop
-mul-if2 c = search needs
-
--- src/holding.rt:31:16
-mul-if2-2 : tie.Need-mul-if2-2 Inv-loop μ-loop
-mul-if2-2 c = search needs
-
--- src/holding.rt:31:16
-index-1-if2 : tie.Need-index-1-if2 Inv-loop μ-loop
-index-1-if2 c = search needs
-
--- src/holding.rt:31:16
-index-2-if2 : tie.Need-index-2-if2 Inv-loop μ-loop
-index-2-if2 c = search needs
-
--- src/holding.rt:32:13
+-- src/holding.rt:35:13
 returns : tie.Need-returns Inv-loop μ-loop
 returns c =
-    let s : tie.Start Inv-loop μ-loop = c .before .before .before .before .before in
-    ceiling-here _ _ _ _ (s .pre .1) _ (omega arith) (search needs) (c .if2 .taken) (c .before .before .before .before .loop .inv .1)
+    let k = c .before .before .before in
+    let a = k .before .before .args in
+    ceiling-here (a .block .now) (a .l) (a .m) (k .before .before .pre .listed) (k .loop .i) _ (omega arith) (c .before .access .ensures) (c .if1 .taken) (k .loop .inv .2)
 
--- src/holding.rt:34:9
+-- src/holding.rt:37:9
 add-i : tie.Need-add-i Inv-loop μ-loop
 add-i c = search needs
 
--- src/holding.rt:30:5
+-- src/holding.rt:33:5
 loop-less : tie.Need-loop-less Inv-loop μ-loop
 loop-less c = search needs
 
--- src/holding.rt:30:5
+-- src/holding.rt:33:5
 loop-again : tie.Need-loop-again Inv-loop μ-loop
 loop-again c =
-    let s : tie.Start Inv-loop μ-loop = c .before .before .before .before .before in
-    (omega arith, ceiling-next _ _ _ _ (s .pre .1) _ (omega arith) (search needs) (c .if2 .left) (c .before .before .before .before .loop .inv .1))
+    let k = c .before .before .before in
+    let a = k .before .before .args in
+    (search needs, search needs, ceiling-next (a .block .now) (a .l) (k .loop .i) _ (omega arith) (c .before .access .ensures) (c .if1 .left) (k .loop .inv .2))
 
--- src/holding.rt:36:5
-index-requires-2 : tie.Need-index-requires-2 Inv-loop μ-loop
-index-requires-2 c κs = search needs
-
--- src/holding.rt:36:5
+-- src/holding.rt:39:5
 sub-result : tie.Need-sub-result Inv-loop μ-loop
 sub-result c = search needs
 
--- src/holding.rt:19:1
+-- src/holding.rt:27:1
 returns-2 : tie.Need-returns-2 Inv-loop μ-loop
 returns-2 c =
-    ap (λ (n : ℕ). n - 1) (c .index2 .ensures .0) ∙ ceiling-over _ _ _ _ (omega arith) (c .before .before .before .loop .inv .1)
+    let k = c .before in
+    let a = k .before .before .args in
+    ap (λ (n : ℕ). n - 1) (k .loop .inv .0) ∙ ceiling-over (a .block .now) (a .l) (a .m) (k .before .before .pre .listed) (k .loop .i) (omega arith) (k .loop .inv .2)
 
 pub inner-ceiling-spec : {M : Type 1} → statement M
 inner-ceiling-spec =
@@ -80,16 +71,12 @@ inner-ceiling-spec =
     (tie.spec
     Inv-loop
     μ-loop
+    count-requires
     loop-holds
-    index-requires
-    mul-if2
-    mul-if2-2
-    index-1-if2
-    index-2-if2
+    access-requires
     returns
     add-i
     loop-less
     loop-again
-    index-requires-2
     sub-result
     returns-2)

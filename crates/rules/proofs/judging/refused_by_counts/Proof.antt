@@ -1,10 +1,12 @@
--- `rules::judging::refused_by_counts` judges each n: the subsystems below s have passed. Assumes nothing.
-use Prim.Native.Nat.{_≤_, _-_}
-use mathlib.Core.Path.{_≡_, refl}
-use Rattle.rules.specs.declared.Rule.the-variants.{Counts}
-use Rattle.rules.proofs.JudgingLaws.{OffendersFrom, offenders-from-zero, offenders-over, offender-here, offenders-next, counts-here, counts-nowhere}
+-- `rules::judging::refused_by_counts` meets its contract. Assumes nothing.
 use borrow.Author.Needs.{needs}
+use Prim.Native.Nat.{_-_, _≤_}
 use native.Mathlib.Omega.{arith}
+use mathlib.Core.Path.{_≡_}
+use Rattle.table.specs.Meaning.{meaning}
+use Rattle.table.proofs.Parts.{count-of-subsystems}
+use Rattle.rules.specs.declared.Rule.the-variants.{Counts}
+use Rattle.rules.proofs.JudgingLaws.{OffendersFrom, offenders-from-zero, offender-here, offenders-next, offenders-over, counts-here, counts-nowhere}
 use Rattle.rules.proofs.judging.refused_by_counts.Statement.{statement}
 use Rattle.rules.proofs.judging.refused_by_counts.Tie as tie
 use Rattle.rules.proofs.judging.refused_by_counts.Reads as reads
@@ -13,59 +15,59 @@ use Rattle.numbers.proofs.index.Reads as index-reads
 use Rattle.rules.proofs.breaks.count_out.Reads as count-out-reads
 
 abbrev Inv-loop : tie.InvT-loop
-Inv-loop t n s₀ s = (n ≡ t .count) × (s ≤ n) × OffendersFrom t Counts s
+Inv-loop t n s₀ s = (n ≡ t .count) × (s ≤ n) × OffendersFrom (meaning t) Counts (t .count) s
 
 abbrev μ-loop : tie.MeasureT-loop
 μ-loop t n s₀ s = n - s
 
--- src/judging.rt:22:9
+-- src/judging.rt:36:9
 index-requires : tie.Need-index-requires Inv-loop μ-loop
 index-requires c κs = search needs
 
--- src/judging.rt:24:5
+-- src/judging.rt:38:5
 loop-holds : tie.Need-loop-holds Inv-loop μ-loop
-loop-holds c = (search needs, search needs, offenders-from-zero _ _)
+loop-holds c = (search needs, search needs, offenders-from-zero _ _ _ (count-of-subsystems _))
 
--- src/judging.rt:25:21
+-- src/judging.rt:39:21
 mul-count : tie.Need-mul-count Inv-loop μ-loop
 mul-count c = search needs
 
--- src/judging.rt:25:13
+-- src/judging.rt:39:13
 element-copy-out-count : tie.Need-element-copy-out-count Inv-loop μ-loop
 element-copy-out-count c = search needs
 
--- src/judging.rt:26:9
+-- src/judging.rt:40:9
 add-s : tie.Need-add-s Inv-loop μ-loop
 add-s c = search needs
 
--- src/judging.rt:27:12
+-- src/judging.rt:41:12
 count-out-requires : tie.Need-count-out-requires Inv-loop μ-loop
 count-out-requires c κs = search needs
 
--- src/judging.rt:28:29
+-- src/judging.rt:42:29
 cast-subsystem : tie.Need-cast-subsystem Inv-loop μ-loop
 cast-subsystem c = search needs
 
--- src/judging.rt:29:13
+-- src/judging.rt:43:13
 returns : tie.Need-returns Inv-loop μ-loop
 returns c =
-    offender-here _ Counts _ 0 (omega arith) (counts-here _ _ _ (c .before .count-out .ensures) (c .if1 .taken)) (c .before .before .before .loop .inv .2)
+    offender-here _ Counts _ _ _ (omega arith) (counts-here _ _ (omega arith) _ (c .before .count-out .ensures) (c .if1 .taken)) (c .before .before .before .loop .inv .2)
 
--- src/judging.rt:24:5
+-- src/judging.rt:38:5
 loop-less : tie.Need-loop-less Inv-loop μ-loop
 loop-less c = search needs
 
--- src/judging.rt:24:5
+-- src/judging.rt:38:5
 loop-again : tie.Need-loop-again Inv-loop μ-loop
 loop-again c = (
   search needs,
   search needs,
-  offenders-next _ Counts _ (omega arith) (counts-nowhere _ _ _ (c .before .count-out .ensures) (c .if1 .left)) (c .before .before .before .loop .inv .2),
+  offenders-next _ Counts _ _ (omega arith) (counts-nowhere _ _ (omega arith) _ (c .before .count-out .ensures) (c .if1 .left)) (c .before .before .before .loop .inv .2),
 )
 
--- src/judging.rt:18:1
+-- src/judging.rt:32:1
 returns-2 : tie.Need-returns-2 Inv-loop μ-loop
-returns-2 c = offenders-over _ Counts _ (omega arith) (c .before .loop .inv .2)
+returns-2 c = offenders-over _ Counts _ _ (omega arith) (c .before .loop .inv .2)
 
 pub refused-by-counts-spec : {M : Type 1} → statement M
 refused-by-counts-spec =

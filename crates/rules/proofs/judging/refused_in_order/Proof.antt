@@ -1,77 +1,65 @@
--- `rules::judging::refused_in_order` judges in one pass: the subsystems below s are judged. Assumes nothing.
-use Prim.Native.Nat.{ℕ, _≤_, _-_}
-use mathlib.Core.Path.{_≡_}
-use Rattle.rules.proofs.JudgingLaws.{counted-slot}
-use Rattle.rules.proofs.EarlierLaws.{JudgedBelow, judged-none, judged-one, judged-every}
+-- `rules::judging::refused_in_order` meets its contract. Assumes nothing.
 use borrow.Author.Needs.{needs}
+use Prim.Native.Nat.{_-_, _≤_}
 use native.Mathlib.Omega.{arith}
+use Rattle.rules.proofs.EarlierLaws.{JudgedBelow, judged-none, judged-one, judged-every}
 use Rattle.rules.proofs.judging.refused_in_order.Statement.{statement}
 use Rattle.rules.proofs.judging.refused_in_order.Tie as tie
 use Rattle.rules.proofs.judging.refused_in_order.Reads as reads
 use Rattle.rules.proofs.judging.refused_in_order.Lts as lts
-use Rattle.numbers.proofs.index.Reads as index-reads
-use Rattle.rules.proofs.places.earlier.Reads as earlier-reads
-use Rattle.rules.proofs.places.judged_subsystem.Reads as judged-subsystem-reads
+use Rattle.rules.proofs.places.with_subsystem.Reads as with-subsystem-reads
 
 abbrev Inv-loop : tie.InvT-loop
-Inv-loop t n m found₀ s₀ found s = (n ≡ t .count) × (m ≡ t .resources) × (s ≤ n) × JudgedBelow t s found
+Inv-loop grid n m found₀ s₀ found s = (s ≤ n) × JudgedBelow n m grid s found
 
 abbrev μ-loop : tie.MeasureT-loop
-μ-loop t n m found₀ s₀ found s = n - s
+μ-loop grid n m found₀ s₀ found s = n - s
 
--- src/judging.rt:40:9
-index-requires : tie.Need-index-requires Inv-loop μ-loop
-index-requires c κs = search needs
-
--- src/judging.rt:41:9
-index-requires-2 : tie.Need-index-requires-2 Inv-loop μ-loop
-index-requires-2 c κs = search needs
-
--- src/judging.rt:44:5
+-- src/judging.rt:73:5
 loop-holds : tie.Need-loop-holds Inv-loop μ-loop
-loop-holds c = (search needs, search needs, search needs, judged-none _)
+loop-holds c = (search needs, judged-none _ _ _)
 
--- src/judging.rt:45:19
-mul-sub : tie.Need-mul-sub Inv-loop μ-loop
-mul-sub c = search needs
+-- src/judging.rt:74:39
+mul-with-subsystem : tie.Need-mul-with-subsystem Inv-loop μ-loop
+mul-with-subsystem c = search needs
 
--- src/judging.rt:45:19
-element-copy-out-sub : tie.Need-element-copy-out-sub Inv-loop μ-loop
-element-copy-out-sub c = search needs
+-- src/judging.rt:74:39
+index-1-with-subsystem : tie.Need-index-1-with-subsystem Inv-loop μ-loop
+index-1-with-subsystem c = search needs
 
--- src/judging.rt:46:9
+-- src/judging.rt:74:53
+add-with-subsystem : tie.Need-add-with-subsystem Inv-loop μ-loop
+add-with-subsystem c = search needs
+
+-- src/judging.rt:74:52
+cast-with-subsystem : tie.Need-cast-with-subsystem Inv-loop μ-loop
+cast-with-subsystem c = search needs
+
+-- src/judging.rt:74:9
+with-subsystem-requires : tie.Need-with-subsystem-requires Inv-loop μ-loop
+with-subsystem-requires c κs = c .before .before .before .pre .counted _ (c .before .loop-test .taken)
+
+-- src/judging.rt:75:9
 add-s : tie.Need-add-s Inv-loop μ-loop
 add-s c = search needs
 
--- src/judging.rt:47:57
-cast-judged-subsystem : tie.Need-cast-judged-subsystem Inv-loop μ-loop
-cast-judged-subsystem c = search needs
-
--- src/judging.rt:47:32
-judged-subsystem-requires : tie.Need-judged-subsystem-requires Inv-loop μ-loop
-judged-subsystem-requires c κs =
-    counted-slot _ (c .before .before .loop .s) _ (c .before .before .before .before .before .pre) (omega arith) (c .before .before .loop .inv .1)
-
--- src/judging.rt:47:9
-earlier-requires : tie.Need-earlier-requires Inv-loop μ-loop
-earlier-requires c κs = search needs
-
--- src/judging.rt:44:5
+-- src/judging.rt:73:5
 loop-less : tie.Need-loop-less Inv-loop μ-loop
 loop-less c = search needs
 
--- src/judging.rt:44:5
+-- src/judging.rt:73:5
 loop-again : tie.Need-loop-again Inv-loop μ-loop
-loop-again c = (
-  search needs,
-  search needs,
-  search needs,
-  rw (c .earlier .ensures) (judged-one _ _ _ _ _ (omega arith) (c .before .before .before .before .loop .inv .1) (c .before .before .before .before .loop .inv .3) (c .before .judged-subsystem .ensures)),
-)
+loop-again c =
+    let k = c .before .before .before in
+    let s = k .before in
+    (search needs, judged-one (s .args .n) (s .args .m) (s .args .grid .now) (k .loop .s) (k .loop .found) _ (omega arith) (k .loop .inv .1) (c .with-subsystem .ensures))
 
--- src/judging.rt:36:1
+-- src/judging.rt:67:1
 returns : tie.Need-returns Inv-loop μ-loop
-returns c = judged-every _ _ _ (omega arith) (c .before .loop .inv .3)
+returns c =
+    let k = c .before in
+    let s = k .before in
+    judged-every (s .args .n) (s .args .m) (s .args .grid .now) (k .loop .s) (k .loop .found) (omega (arith, c .loop-test .left, k .loop .inv .0)) (k .loop .inv .1)
 
 pub refused-in-order-spec : {M : Type 1} → statement M
 refused-in-order-spec =
@@ -79,15 +67,13 @@ refused-in-order-spec =
     (tie.spec
     Inv-loop
     μ-loop
-    index-requires
-    index-requires-2
     loop-holds
-    mul-sub
-    element-copy-out-sub
+    mul-with-subsystem
+    index-1-with-subsystem
+    add-with-subsystem
+    cast-with-subsystem
+    with-subsystem-requires
     add-s
-    cast-judged-subsystem
-    judged-subsystem-requires
-    earlier-requires
     loop-less
     loop-again
     returns)

@@ -1,56 +1,60 @@
--- `rules::places::judged_own` judges a subsystem's own place: rule 4 says nothing of it. Assumes nothing.
-use mathlib.Core.Path.{_≡_, sym, _∙_}
-use Rattle.rules.specs.Earlier.{judgedOwn}
-use Rattle.rules.proofs.BreaksLaws.{access-of-none}
-use Rattle.rules.proofs.EarlierLaws.{at-range, at-order, at-overrun, at-none}
-use native.Mathlib.Omega.{arith}
+-- `rules::places::judged_own` meets its contract. Assumes nothing.
 use borrow.Author.Needs.{needs}
+use mathlib.Core.Path.{sym, ap₂, _∙_}
+use borrow.Author.Tests.{lt-ltb, le-ltb}
+use lib.Dec.{ltb}
+use Rattle.rules.specs.Earlier.{judgedOwn}
+use Rattle.rules.proofs.BreaksLaws.{own-range, own-order, own-access}
+use Rattle.rules.proofs.EarlierLaws.{at-range, at-order, at-none}
 use Rattle.rules.proofs.places.judged_own.Statement.{statement}
 use Rattle.rules.proofs.places.judged_own.Tie as tie
 use Rattle.rules.proofs.places.judged_own.Reads as reads
 use Rattle.rules.proofs.places.judged_own.Lts as lts
-use Rattle.rules.proofs.breaks.subsystem_breaks.Reads as subsystem-breaks-reads
+use Rattle.rules.proofs.breaks.own_out_of_range.Reads as own-out-of-range-reads
+use Rattle.table.proofs.grid.budget.Reads as budget-reads
+use Rattle.table.proofs.grid.period.Reads as period-reads
 
--- src/places.rt:54:8
-subsystem-breaks-requires : tie.Need-subsystem-breaks-requires
-subsystem-breaks-requires c κs = search needs
+-- src/places.rt:70:8
+own-out-of-range-requires : tie.Need-own-out-of-range-requires
+own-out-of-range-requires c κs = search needs
 
--- src/places.rt:55:9
+-- src/places.rt:71:9
 returns : tie.Need-returns
 unfolding judgedOwn
-returns c = at-range _ _ (sym (c .before .subsystem-breaks .ensures) ∙ c .if1 .taken)
+returns c = at-range _ _ (own-range _ _ _ (c .before .own-out-of-range .ensures) ∙ c .if1 .taken)
 
--- src/places.rt:57:8
-subsystem-breaks-requires-2 : tie.Need-subsystem-breaks-requires-2
-subsystem-breaks-requires-2 c κs = search needs
+-- src/places.rt:73:8
+period-requires : tie.Need-period-requires
+period-requires c κs = search needs
 
--- src/places.rt:58:9
+-- src/places.rt:73:24
+budget-requires : tie.Need-budget-requires
+budget-requires c κs = search needs
+
+-- src/places.rt:74:9
 returns-2 : tie.Need-returns-2
 unfolding judgedOwn
-returns-2 c = at-order _ _ (sym (c .before .before .before .subsystem-breaks .ensures) ∙ c .before .before .if1 .left) (sym (c .before .subsystem-breaks2 .ensures) ∙ c .if2 .taken)
+returns-2 c =
+    let r = c .before .before .before in
+    at-order _ _ (own-range _ _ _ (r .before .own-out-of-range .ensures) ∙ r .if1 .left)
+    (own-order _ _ ∙ ap₂ ltb (sym (c .before .before .period .ensures)) (sym (c .before .budget .ensures)) ∙ lt-ltb _ _ (c .if2 .taken))
 
--- src/places.rt:60:8
-subsystem-breaks-requires-3 : tie.Need-subsystem-breaks-requires-3
-subsystem-breaks-requires-3 c κs = search needs
-
--- src/places.rt:61:9
+-- src/places.rt:65:1
 returns-3 : tie.Need-returns-3
 unfolding judgedOwn
-returns-3 c = at-overrun _ _ (sym (c .before .before .before .before .before .subsystem-breaks .ensures) ∙ c .before .before .before .before .if1 .left) (sym (c .before .before .before .subsystem-breaks2 .ensures) ∙ c .before .before .if2 .left) (sym (access-of-none _ _)) (sym (c .before .subsystem-breaks3 .ensures) ∙ c .if3 .taken)
-
--- src/places.rt:49:1
-returns-4 : tie.Need-returns-4
-unfolding judgedOwn
-returns-4 c = at-none _ _ (sym (c .before .before .before .before .before .subsystem-breaks .ensures) ∙ c .before .before .before .before .if1 .left) (sym (c .before .before .before .subsystem-breaks2 .ensures) ∙ c .before .before .if2 .left) (sym (access-of-none _ _)) (sym (c .before .subsystem-breaks3 .ensures) ∙ c .if3 .left)
+returns-3 c =
+    let r = c .before .before .before in
+    at-none _ _ (own-range _ _ _ (r .before .own-out-of-range .ensures) ∙ r .if1 .left)
+    (own-order _ _ ∙ ap₂ ltb (sym (c .before .before .period .ensures)) (sym (c .before .budget .ensures)) ∙ le-ltb _ _ (c .if2 .left))
+    (own-access _ _)
 
 pub judged-own-spec : {M : Type 1} → statement M
 judged-own-spec =
     tie.close
     (tie.spec
-    subsystem-breaks-requires
+    own-out-of-range-requires
     returns
-    subsystem-breaks-requires-2
+    period-requires
+    budget-requires
     returns-2
-    subsystem-breaks-requires-3
-    returns-3
-    returns-4)
+    returns-3)

@@ -1,56 +1,81 @@
--- `rules::places::judged_task` judges a task's place: rule 5 says nothing of it. Assumes nothing.
-use mathlib.Core.Path.{_≡_, sym, _∙_}
-use Rattle.rules.specs.Earlier.{judgedTask}
-use Rattle.rules.proofs.BreaksLaws.{overrun-of-none}
-use Rattle.rules.proofs.EarlierLaws.{at-range, at-order, at-access, at-none}
-use native.Mathlib.Omega.{arith}
+-- `rules::places::judged_task` meets its contract. Assumes nothing.
 use borrow.Author.Needs.{needs}
+use Prim.Native.Nat.{ℕ}
+use mathlib.Core.Path.{sym, ap, _∙_}
+use borrow.Author.Tests.{lt-ltb, le-ltb}
+use lib.Dec.{ltb}
+use Rattle.rules.specs.Earlier.{judgedTask}
+use Rattle.rules.proofs.BreaksLaws.{task-range, task-order, task-access}
+use Rattle.rules.proofs.EarlierLaws.{at-range, at-order, at-access, at-none}
 use Rattle.rules.proofs.places.judged_task.Statement.{statement}
 use Rattle.rules.proofs.places.judged_task.Tie as tie
 use Rattle.rules.proofs.places.judged_task.Reads as reads
 use Rattle.rules.proofs.places.judged_task.Lts as lts
-use Rattle.rules.proofs.breaks.task_breaks.Reads as task-breaks-reads
+use Rattle.rules.proofs.breaks.longest_of_task.Reads as longest-of-task-reads
+use Rattle.rules.proofs.breaks.task_out_of_order.Reads as task-out-of-order-reads
+use Rattle.rules.proofs.breaks.task_out_of_range.Reads as task-out-of-range-reads
+use Rattle.table.proofs.grid.work.Reads as work-reads
 
--- src/places.rt:71:8
-task-breaks-requires : tie.Need-task-breaks-requires
-task-breaks-requires c κs = search needs
+-- src/places.rt:84:9
+longest-of-task-requires : tie.Need-longest-of-task-requires
+longest-of-task-requires c κs = search needs
 
--- src/places.rt:72:9
+-- src/places.rt:85:8
+task-out-of-range-requires : tie.Need-task-out-of-range-requires
+task-out-of-range-requires c κs = search needs
+
+-- src/places.rt:86:9
 returns : tie.Need-returns
 unfolding judgedTask
-returns c = at-range _ _ (sym (c .before .task-breaks .ensures) ∙ c .if1 .taken)
+returns c = at-range _ _ (task-range _ _ _ _ (c .before .before .longest-of-task .ensures) _ (c .before .task-out-of-range .ensures) ∙ c .if1 .taken)
 
--- src/places.rt:74:8
-task-breaks-requires-2 : tie.Need-task-breaks-requires-2
-task-breaks-requires-2 c κs = search needs
+-- src/places.rt:88:8
+task-out-of-order-requires : tie.Need-task-out-of-order-requires
+task-out-of-order-requires c κs = search needs
 
--- src/places.rt:75:9
+-- src/places.rt:89:9
 returns-2 : tie.Need-returns-2
 unfolding judgedTask
-returns-2 c = at-order _ _ (sym (c .before .before .before .task-breaks .ensures) ∙ c .before .before .if1 .left) (sym (c .before .task-breaks2 .ensures) ∙ c .if2 .taken)
+returns-2 c =
+    let r = c .before .before in
+    at-order _ _ (task-range _ _ _ _ (r .before .before .longest-of-task .ensures) _ (r .before .task-out-of-range .ensures) ∙ r .if1 .left)
+    (task-order _ _ _ _ (c .before .task-out-of-order .ensures) ∙ c .if2 .taken)
 
--- src/places.rt:77:8
-task-breaks-requires-3 : tie.Need-task-breaks-requires-3
-task-breaks-requires-3 c κs = search needs
+-- src/places.rt:91:8
+work-requires : tie.Need-work-requires
+work-requires c κs = search needs
 
--- src/places.rt:78:9
+-- src/places.rt:92:9
 returns-3 : tie.Need-returns-3
 unfolding judgedTask
-returns-3 c = at-access _ _ (sym (c .before .before .before .before .before .task-breaks .ensures) ∙ c .before .before .before .before .if1 .left) (sym (c .before .before .before .task-breaks2 .ensures) ∙ c .before .before .if2 .left) (sym (c .before .task-breaks3 .ensures) ∙ c .if3 .taken)
+returns-3 c =
+    let o = c .before .before in
+    let r = o .before .before in
+    let longest = r .before .before .longest-of-task .ensures in
+    at-access _ _ (task-range _ _ _ _ longest _ (r .before .task-out-of-range .ensures) ∙ r .if1 .left)
+    (task-order _ _ _ _ (o .before .task-out-of-order .ensures) ∙ o .if2 .left)
+    (sym (task-access _ _ _ _ longest) ∙ ap (λ (w : ℕ). ltb w (r .before .before .longest-of-task .result)) (sym (c .before .work .ensures)) ∙ lt-ltb _ _ (c .if3 .taken))
 
--- src/places.rt:67:1
+-- src/places.rt:80:1
 returns-4 : tie.Need-returns-4
 unfolding judgedTask
-returns-4 c = at-none _ _ (sym (c .before .before .before .before .before .task-breaks .ensures) ∙ c .before .before .before .before .if1 .left) (sym (c .before .before .before .task-breaks2 .ensures) ∙ c .before .before .if2 .left) (sym (c .before .task-breaks3 .ensures) ∙ c .if3 .left) (sym (overrun-of-none _ _))
+returns-4 c =
+    let o = c .before .before in
+    let r = o .before .before in
+    let longest = r .before .before .longest-of-task .ensures in
+    at-none _ _ (task-range _ _ _ _ longest _ (r .before .task-out-of-range .ensures) ∙ r .if1 .left)
+    (task-order _ _ _ _ (o .before .task-out-of-order .ensures) ∙ o .if2 .left)
+    (sym (task-access _ _ _ _ longest) ∙ ap (λ (w : ℕ). ltb w (r .before .before .longest-of-task .result)) (sym (c .before .work .ensures)) ∙ le-ltb _ _ (c .if3 .left))
 
 pub judged-task-spec : {M : Type 1} → statement M
 judged-task-spec =
     tie.close
     (tie.spec
-    task-breaks-requires
+    longest-of-task-requires
+    task-out-of-range-requires
     returns
-    task-breaks-requires-2
+    task-out-of-order-requires
     returns-2
-    task-breaks-requires-3
+    work-requires
     returns-3
     returns-4)

@@ -1,103 +1,95 @@
 -- `stored::read::read_subsystems` meets its contract: the loop's invariant: what is read of the first s subsystems, and
 -- that what is left gives the answer. Assumes nothing.
-use Rattle.table.specs.declared.Table.{Table}
-use mathlib.Core.Path.{ap}
-use Prim.Native.Nat.{_-_}
-use Rattle.stored.specs.Decode.{headed}
-use Rattle.stored.specs.Read.{tableIn}
-use Rattle.stored.proofs.ReadSubsystems.{SubsystemsTo, subsystems-begin, subsystems-stop, subsystems-go-on, left-over-stops, subsystems-end}
 use borrow.Author.Needs.{needs}
+use Prim.Native.Nat.{_-_}
 use native.Mathlib.Omega.{arith}
+use Rattle.stored.proofs.ReadSubsystems.{SubsystemsTo, subsystems-begin, subsystems-stop, subsystems-go-on, left-over-stops, subsystems-end}
 use Rattle.stored.proofs.read.read_subsystems.Statement.{statement}
 use Rattle.stored.proofs.read.read_subsystems.Tie as tie
-use Rattle.stored.proofs.read.read_subsystems.Reads as reads
-use Rattle.stored.proofs.read.read_subsystems.Lts as lts
-use Rattle.stored.proofs.read.read_subsystem.Reads as read-subsystem-reads
-use Rattle.table.proofs.Subsystem.zeros.Reads as Subsystem-zeros-reads
-use Rattle.table.proofs.Table.zeros.Reads as Table-zeros-reads
 
 abbrev Inv-loop : tie.InvT-loop
-Inv-loop file count resources first n m t₀ at₀ s₀ t at s = SubsystemsTo file m n s at t
+Inv-loop file n m grid₀ at₀ s₀ grid at s = SubsystemsTo file m n s at grid
 
 abbrev μ-loop : tie.MeasureT-loop
-μ-loop file count resources first n m t₀ at₀ s₀ t at s = n - s
+μ-loop file n m grid₀ at₀ s₀ grid at s = n - s
 
--- src/read.rt:100:22
-zeros-requires : tie.Need-zeros-requires Inv-loop μ-loop
-zeros-requires c κs = search needs
+-- src/read.rt:98:18
+add-at : tie.Need-add-at Inv-loop μ-loop
+add-at c = search needs
 
--- src/read.rt:104:5
+-- src/read.rt:100:5
 loop-holds : tie.Need-loop-holds Inv-loop μ-loop
 loop-holds c =
-    let s = c .before .before in
-    rw (c .zeros .ensures)
-    (subsystems-begin (s .args .file .now) (s .args .first) (headed (s .args .count) (s .args .resources)) (s .pre .0 .1 .1) (s .pre .1 .0) (s .pre .1 .1))
+    let a = c .before .args in
+    let p = c .before .pre .1 .1 in
+    subsystems-begin (a .file .now) (a .m) (a .n) (a .grid .now) (p .0) (p .1)
 
--- src/read.rt:105:13
+-- src/read.rt:101:48
+mul-read-subsystem : tie.Need-mul-read-subsystem Inv-loop μ-loop
+mul-read-subsystem c = search needs
+
+-- src/read.rt:101:48
+index-1-read-subsystem : tie.Need-index-1-read-subsystem Inv-loop μ-loop
+index-1-read-subsystem c = search needs
+
+-- src/read.rt:101:13
 read-subsystem-requires : tie.Need-read-subsystem-requires Inv-loop μ-loop
-read-subsystem-requires c κs = search needs
+read-subsystem-requires c κs =
+    let k = c .before .before in
+    let s = k .before .before in
+    let a = s .args in
+    let below = c .before .loop-test .taken in
+    (s .pre .1 .0 .0, (k .loop .inv .within, k .loop .inv .blocks .lines (k .loop .s) (omega (arith, below, s .pre .0 .0))))
 
 enum-told : tie.Need-enum-told Inv-loop μ-loop
 enum-told c = search needs
 
--- src/read.rt:108:17
+-- src/read.rt:104:13
 enum-told-2 : tie.Need-enum-told-2 Inv-loop μ-loop
 enum-told-2 c = search needs
 
--- src/read.rt:108:17
-zeros-requires-2 : tie.Need-zeros-requires-2 Inv-loop μ-loop
-zeros-requires-2 c κs = search needs
-
--- src/read.rt:109:13
+-- src/read.rt:104:13
 returns : tie.Need-returns Inv-loop μ-loop
 returns c =
     let k = c .before .before .before .before .before in
-    let s = k .before .before .before in
-    let r = c .before .before .before .read-subsystem in
-    let told = c .before .enum-told2 .given in
-    subsystems-stop (s .args .file .now) (s .args .resources) (s .args .count) (k .loop .s) (k .loop .at) (k .loop .t) (k .loop .inv) (c .before .before .before .before .loop-test .taken) (r .result) (r .ensures) (told .0 .0) (told .0 .1 .0) (c .zeros2 .result) (tableIn (s .args .file .now)) (told .1) (c .zeros2 .ensures)
+    let s = k .before .before in
+    let a = s .args in
+    let r = c .before .before .read-subsystem in
+    let told = c .enum-told2 .given in
+    subsystems-stop (a .file .now) (a .m) (a .n) (k .loop .s) (k .loop .at) (k .loop .grid) (k .loop .inv) (c .before .before .before .before .loop-test .taken) (s .pre .0 .0) _ (r .result) (r .ensures) (told .0 .0) (told .0 .1 .0) (told .1)
 
--- src/read.rt:115:9
-mul-sub : tie.Need-mul-sub Inv-loop μ-loop
-mul-sub c = search needs
-
--- src/read.rt:115:9
-element-set-from-sub : tie.Need-element-set-from-sub Inv-loop μ-loop
-element-set-from-sub c = search needs
-
--- src/read.rt:117:9
+-- src/read.rt:107:9
 add-s : tie.Need-add-s Inv-loop μ-loop
 add-s c = search needs
 
--- src/read.rt:104:5
+-- src/read.rt:100:5
 loop-less : tie.Need-loop-less Inv-loop μ-loop
 loop-less c = search needs
 
--- src/read.rt:104:5
+-- src/read.rt:100:5
 loop-again : tie.Need-loop-again Inv-loop μ-loop
 loop-again c =
     let k = c .before .before .before .before .before in
-    let s = k .before .before .before in
-    let r = c .before .before .before .read-subsystem in
-    subsystems-go-on (s .args .file .now) (s .args .resources) (s .args .count) (k .loop .s) (k .loop .at) (k .loop .t) (k .loop .inv) (c .before .before .before .before .loop-test .taken) (r .result) (r .ensures) (c .before .enum-told .given .1) (ap (λ (t : Table). t .resources) (s .pre .0 .1 .1)) (s .pre .0 .0)
+    let s = k .before .before in
+    let a = s .args in
+    let r = c .before .before .read-subsystem in
+    subsystems-go-on (a .file .now) (a .m) (a .n) (k .loop .s) (k .loop .at) (k .loop .grid) (k .loop .inv) (c .before .before .before .before .loop-test .taken) (s .pre .0 .0) _ (r .result) (r .ensures) (c .enum-told .given .1)
 
--- src/read.rt:122:20
-zeros-requires-3 : tie.Need-zeros-requires-3 Inv-loop μ-loop
-zeros-requires-3 c κs = search needs
-
--- src/read.rt:120:9
+-- src/read.rt:110:9
 returns-2 : tie.Need-returns-2 Inv-loop μ-loop
 returns-2 c =
-    let k = c .before .before .before in
-    let s = k .before .before .before in
-    left-over-stops (s .args .file .now) (s .args .resources) (s .args .count) (k .loop .s) (k .loop .at) (k .loop .t) (k .loop .inv) (c .before .before .loop-test .left) (c .zeros3 .result) (tableIn (s .args .file .now)) (c .before .if1 .taken) (c .zeros3 .ensures)
+    let k = c .before .before in
+    let s = k .before .before in
+    let a = s .args in
+    left-over-stops (a .file .now) (a .m) (a .n) (k .loop .s) (k .loop .at) (k .loop .grid) (k .loop .inv) (c .before .loop-test .left) (c .if1 .taken)
 
--- src/read.rt:90:1
+-- src/read.rt:92:1
 returns-3 : tie.Need-returns-3 Inv-loop μ-loop
 returns-3 c =
     let k = c .before .before in
-    let s = k .before .before .before in
-    subsystems-end (s .args .file .now) (s .args .resources) (s .args .count) (k .loop .s) (k .loop .at) (k .loop .t) (k .loop .inv) (c .before .loop-test .left) (c .if1 .left) (ap (λ (t : Table). t .count) (s .pre .0 .1 .1))
+    let s = k .before .before in
+    let a = s .args in
+    subsystems-end (a .file .now) (a .m) (a .n) (k .loop .s) (k .loop .at) (k .loop .grid) (k .loop .inv) (c .before .loop-test .left) (c .if1 .left) (s .pre .0 .1) (s .pre .1 .0 .1)
 
 pub read-subsystems-spec : {M : Type 1} → statement M
 read-subsystems-spec =
@@ -105,18 +97,16 @@ read-subsystems-spec =
     (tie.spec
     Inv-loop
     μ-loop
-    zeros-requires
+    add-at
     loop-holds
+    mul-read-subsystem
+    index-1-read-subsystem
     read-subsystem-requires
     enum-told
     enum-told-2
-    zeros-requires-2
     returns
-    mul-sub
-    element-set-from-sub
     add-s
     loop-less
     loop-again
-    zeros-requires-3
     returns-2
     returns-3)
