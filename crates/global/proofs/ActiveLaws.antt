@@ -1,7 +1,7 @@
 -- Laws of the active period and its jobs: what it is the least solution of, and that every job is released within it.
 -- Assumes nothing.
 use Prim.Native.Nat.{ℕ, _+_, _*_, _≤_, _<_}
-use native.Mathlib.Nat.{le-trans, mul-pos}
+use native.Mathlib.Nat.{le-trans, mul-le-mul-right}
 use native.Mathlib.Omega.{arith}
 use mathlib.Core.Path.{_≡_, ap₂, _∙_}
 use mathlib.Core.Logic.{⊎-elim}
@@ -52,10 +52,14 @@ module _ (v : View) (sv : Sound-view v) where
       let own : up x (getD (v .periods) (v .place) 0) * getD (v .costs) (v .place) 0 ≡ up x (v .period) * cost v = ap₂ (λ (p c : ℕ). up x p * c) (sv .own-period) (sv .own-cost) in
       omega (arith, demand-suc (v .periods) (v .costs) (v .place) x)
 
+  -- B and one job of its own are always among it.
+  pub active-floor : (x : ℕ) → 1 ≤ x → v .blocking + cost v ≤ activeTotal v x
+  active-floor x h =
+      let one : 1 * cost v ≤ up x (v .period) * cost v = mul-le-mul-right (cost v) (up-pos x (v .period) period-pos h) in
+      omega (arith, active-total x)
+
   pub active-starts : 1 ≤ activeTotal v 1
-  active-starts =
-      let one : 0 < up 1 (v .period) * cost v = mul-pos (up-pos 1 (v .period) period-pos (omega arith)) (le-trans (sv .budget-pos) (budget-at-most v)) in
-      omega (arith, active-total 1)
+  active-starts = omega (arith, active-floor 1 (omega arith), sv .budget-pos, budget-at-most v)
 
   module _ {active : ℕ} (is : activePeriod v ≡ some active) where
     active-is-least : IsLeast (activeTotal v) active

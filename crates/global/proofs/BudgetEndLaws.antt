@@ -1,5 +1,6 @@
 -- Laws of budget ends (step 9): every job of an active period has one, none is above the active period, each lies after the
--- job's release, and the next job's search starts where this one ended, and Q + X further on. Assumes nothing.
+-- job's release, the first job's search starts at B + Q, and the next job's where this one ended, and Q + X further on.
+-- Assumes nothing.
 use Prim.Native.Nat.{ℕ, suc, _+_, _*_, _≤_, _<_}
 use native.Mathlib.Nat.{mul-le-mul-right, suc-mul, mul-le-mul-left}
 use native.Mathlib.Numerals.{add-one}
@@ -15,7 +16,7 @@ use Rattle.least.specs.Least.{least}
 use Rattle.least.specs.Search.{Search, Comes-down, IsLeast}
 use Rattle.least.proofs.Up.{up-is-least}
 use Rattle.least.proofs.Demand.{demand-mono}
-use Rattle.least.proofs.Search.{stands-at-one, stands-below, least-stands, least-is-one, stands-warm}
+use Rattle.least.proofs.Search.{stands-at-one, stands-at-floor, stands-below, least-stands, least-is-one, stands-warm}
 use Rattle.least.proofs.LeastLaws.{least-below}
 use Rattle.table.specs.Limits.{horizon}
 use Rattle.global.specs.Blocking.{numberOr}
@@ -50,6 +51,12 @@ module _ (v : View) (sv : Sound-view v) where
   pub budget-from-one : (k : ℕ) → Budget-from v k 1
   unfolding Budget-from
   budget-from-one k = stands-at-one (budgetTotal v k) (budget-starts k)
+
+  -- That for job 0 may start at B + Q, which is what the job waits for besides higher subsystems.
+  pub first-starts : Budget-from v 0 (v .blocking + v .budget)
+  unfolding Budget-from ahead
+  first-starts =
+      stands-at-floor (budgetTotal v 0) (omega (arith, sv .budget-pos)) (λ y l. omega (arith, budget-total v 0 y))
 
   -- What the code computes ahead of job k.
   pub ahead-computed : (k : ℕ) {r : ℕ} → r ≡ v .blocking + k * getD (v .costs) (v .place) 0 + v .budget → r ≡ ahead v k

@@ -10,13 +10,14 @@ use Rattle.least.specs.Least.{least, answered}
 use Rattle.least.specs.Search.{Search, Comes-down, IsLeast}
 use Rattle.least.specs.declared.Least.{Least}
 use Rattle.least.specs.declared.Least.the-variants.{At, Beyond}
-use Rattle.least.proofs.Search.{least-is-one}
+use Rattle.least.proofs.Search.{stands-at-one, least-is-one}
 use Rattle.table.specs.Limits.{horizon}
 use Rattle.global.specs.View.{View, resources, held, ceiling}
 use Rattle.global.specs.Ends.{activePeriod, jobs, ahead, budgetEnd, jobEnd}
 use Rattle.global.specs.JobCount.{jobsIn, jobCount}
 use Rattle.global.specs.Sound.{Sound-view, Counted}
 use Rattle.global.specs.Computed.{afterwards, After}
+use Rattle.global.proofs.ActiveLaws.{activeTotal, active-starts}
 use Rattle.global.proofs.BudgetEndLaws.{budget-from-one, budget-asked, budget-found}
 use Rattle.global.proofs.JobEndLaws.{jobTotal, jobConstant, constant-by-end, job-end-is-least}
 use Rattle.global.proofs.ResponseLaws.{after-end}
@@ -47,8 +48,9 @@ module _ (v : View) where
 
 -- Searches over lists p and c that are the loads which the view has.
 module _ (v : View) (sv : Sound-view v) {p c : List ℕ} (ep : p ≡ v .periods) (ec : c ≡ v .costs) where
+  -- The active period: a search from 1.
   pub active-lent : {b : ℕ} → b ≡ v .blocking → Search p c (v .place + 1) b 1
-  active-lent e = rw (ep, ec) (active-search v sv e)
+  active-lent e = rw (ep, ec) (active-search v sv e (stands-at-one (activeTotal v) (active-starts v sv)))
 
   pub active-at : {b active : ℕ} {r : Least} → b ≡ v .blocking → r ≡ answered (least p c (v .place + 1) b horizon) → r ≡ At active → activePeriod v ≡ some active
   active-at e q a = found-active v e (rw (ep, ec) at q) a

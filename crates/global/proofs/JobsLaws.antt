@@ -1,5 +1,5 @@
--- Laws of the jobs of an active period, as one is computed after the other: each counts, and where the search for the next one
--- begins. Assumes nothing.
+-- Laws of the jobs of an active period, as one is computed after the other: each counts, and where the searches for the
+-- first and the next one begin. Assumes nothing.
 use Prim.Native.Nat.{ℕ, _+_, _*_, _^_, _≤_, _<_}
 use native.Mathlib.Omega.{arith}
 use mathlib.Core.Path.{_≡_, ap₂}
@@ -7,7 +7,7 @@ use lib.ListN.{getD}
 use Rattle.global.specs.View.{View, cost}
 use Rattle.global.specs.Ends.{budgetEnd}
 use Rattle.global.specs.Sound.{Sound-view, Counted, Jobs, Budget-from}
-use Rattle.global.proofs.ActiveLaws.{active-within, some-job}
+use Rattle.global.proofs.ActiveLaws.{budget-at-most, active-within, some-job}
 use Rattle.global.proofs.BudgetEndLaws.{ahead-holds-budget, budget-end-parts, budget-end-within, next-starts, released-before-end}
 
 -- Each number below the number of jobs is a job.
@@ -17,6 +17,10 @@ job-counted v j k h = record { active = j .active; is-active = j .is-active; amo
 -- There is a job.
 pub some-jobs : (v : View) → Sound-view v → {n : ℕ} → Jobs v n → 1 ≤ n
 some-jobs v sv j = rw (j .all) (some-job v sv (j .is-active))
+
+-- The first search begins within the machine's numbers.
+pub first-fits : (v : View) → Sound-view v → v .blocking + v .budget < 2 ^ 32
+first-fits v sv = omega (arith, sv .blocking-small, budget-at-most v, sv .fits, sv .period-small)
 
 module _ (v : View) (sv : Sound-view v) {k : ℕ} (ct : Counted v k) {end : ℕ} (e : end ≡ budgetEnd v k) where
   next-is : end + getD (v .costs) (v .place) 0 ≡ budgetEnd v k + cost v

@@ -1,14 +1,13 @@
 -- Laws of the row: the search for the active period, what its answer says, and the row from its parts. Assumes nothing.
-use Prim.Native.Nat.{ℕ, _+_, _-_, _≤_}
+use Prim.Native.Nat.{ℕ, _+_, _-_, _^_, _≤_, _<_}
 use native.Mathlib.Omega.{arith}
 use mathlib.Core.Path.{_≡_, refl, ap, _∙_}
 use mathlib.Core.Option.{Option, none, some}
 use lib.ListN.{getD}
 use Rattle.least.specs.Up.{up}
-use Rattle.least.specs.Demand.{total}
 use Rattle.least.specs.Least.{least, answered}
-use Rattle.least.specs.Search.{Search}
-use Rattle.least.proofs.Search.{stands-at-one}
+use Rattle.least.specs.Search.{Search, Stands}
+use Rattle.least.proofs.Search.{stands-at-floor}
 use Rattle.least.specs.declared.Least.{Least}
 use Rattle.least.specs.declared.Least.the-variants.{At, Beyond}
 use Rattle.table.specs.Limits.{horizon}
@@ -21,7 +20,7 @@ use Rattle.global.specs.Response.{response}
 use Rattle.global.specs.Row.{judged, rowWith, rowWithout, rowFor}
 use Rattle.global.specs.Sound.{Sound-view}
 use Rattle.global.specs.Computed.{worstOf}
-use Rattle.global.proofs.ActiveLaws.{active-starts}
+use Rattle.global.proofs.ActiveLaws.{activeTotal, active-floor, budget-at-most}
 
 -- What an answer says of the least solution.
 answer-at : (o : Option ℕ) {r : Least} {x : ℕ} → r ≡ answered o → r ≡ At x → o ≡ some x
@@ -85,12 +84,17 @@ module _ (v : View) (sv : Sound-view v) where
   unfolding cost
   overrun-computed = omega (arith, sv .own-cost)
 
-  -- The search for the active period may start from 1.
-  pub active-search : {b : ℕ} → b ≡ v .blocking → Search (v .periods) (v .costs) (v .place + 1) b 1
-  active-search e =
+  -- The search for the active period may start at B + Q + X, as the code computes it, and that fits the machine's numbers.
+  pub active-from-floor : Stands (activeTotal v) (v .blocking + getD (v .costs) (v .place) 0)
+  active-from-floor =
+      rw (sv .own-cost)
+      (stands-at-floor (activeTotal v) (omega (arith, sv .budget-pos, budget-at-most v)) (active-floor v sv))
+
+  pub floor-fits : v .blocking + getD (v .costs) (v .place) 0 < 2 ^ 32
+  floor-fits = omega (arith, sv .own-cost, sv .blocking-small, sv .fits, sv .period-small)
+
+  -- That search from any start at which it may stand.
+  pub active-search : {b start : ℕ} → b ≡ v .blocking → Stands (activeTotal v) start → Search (v .periods) (v .costs) (v .place + 1) b start
+  active-search e s =
       rw e
-      (record {
-        loads = sv .loads;
-        constant-small = omega (arith, sv .blocking-small);
-        stands = stands-at-one (total (v .periods) (v .costs) (v .place + 1) (v .blocking)) (active-starts v sv);
-      })
+      (record { loads = sv .loads; constant-small = omega (arith, sv .blocking-small); stands = s })

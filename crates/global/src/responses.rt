@@ -175,9 +175,9 @@ fn may_be_worse(own: Own, worst: Worst, k: u32, next: u32) -> bool
     wide(worst.response) + wide(k * own.period) < wide(next - own.budget)
 }
 
-// The largest response over the n jobs of the active period, the first job that has it, and that job's lowest resource. Each
-// budget end is searched from where the last one was found, and Q + X further on. A job's own end is looked for only where
-// the next budget end leaves room for a larger response.
+// The largest response over the n jobs of the active period, the first job that has it, and that job's lowest resource. The
+// first budget end is searched from B + Q, which job 0 waits for at least; each other from where the last one was found, and
+// Q + X further on. A job's own end is looked for only where the next budget end leaves room for a larger response.
 pub(crate) fn largest_response(
     periods: &[u32],
     costs: &[u32],
@@ -197,7 +197,8 @@ pub(crate) fn largest_response(
         job: 0,
         resource: 0,
     };
-    let mut end = end_of_budget(periods, costs, holdings, ceilings, own, 0, 1);
+    let first = own.blocking + own.budget;
+    let mut end = end_of_budget(periods, costs, holdings, ceilings, own, 0, first);
     let mut k: u32 = 0;
     while k + 1 < n {
         let next = end_of_budget(periods, costs, holdings, ceilings, own, k + 1, end + cost);

@@ -64,8 +64,8 @@ fn active_row(
     }
 }
 
-// The row from what the subsystem has before it. Without an active period at or below the horizon, X and B stand and the
-// rest is 0.
+// The row from what the subsystem has before it. The active period is searched from B + Q + X: blocking and one job are in
+// every active period. Without one at or below the horizon, X and B stand and the rest is 0.
 fn row_seen(
     periods: &[u32],
     costs: &[u32],
@@ -78,16 +78,17 @@ fn row_seen(
     ensures { λ r. ⌜ r ≡ rowFor (seenBy (now (periods .entry)) (now (costs .entry)) (now (holdings .entry)) (now (ceilings .entry)) own) failing (activePeriod (seenBy (now (periods .entry)) (now (costs .entry)) (now (holdings .entry)) (now (ceilings .entry)) own)) ⌝ }
 {
     let s = own.place;
+    let cost = costs[s];
     let Least::At(active) = least_solution(
         periods,
         costs,
         s + 1,
         wide(own.blocking),
-        1,
+        own.blocking + cost,
         Table::HORIZON,
     ) else {
         return Row {
-            holding: costs[s] - own.budget,
+            holding: cost - own.budget,
             failing,
             blocking: own.blocking,
             active: 0,

@@ -17,6 +17,11 @@ module _ (f : ℕ → ℕ) where
   pub stands-at-one : 1 ≤ f 1 → Stands f 1
   stands-at-one h = record { from = omega arith; rises = h; before = λ y l u. absurd (omega arith) }
 
+  -- It may start at x where f gives at least x everywhere.
+  pub stands-at-floor : {x : ℕ} → 1 ≤ x → ((y : ℕ) → 1 ≤ y → x ≤ f y) → Stands f x
+  stands-at-floor {x} from floor =
+      record { from = from; rises = floor x from; before = λ y l u. lt-of-lt-of-le u (floor y l) }
+
   -- Where f is still above x, the search goes on at f x.
   pub stands-next : Mono f → {x : ℕ} → Stands f x → Stands f (f x)
   stands-next m {x} s =

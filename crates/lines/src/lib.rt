@@ -30,7 +30,8 @@ pub fn put_bytes(buf: &mut [u8], at: usize, bytes: &[u8]) -> usize
     at + i
 }
 
-// A number, in decimal, without leading zeros.
+// A number, in decimal, without leading zeros. Most numbers have one digit; those are written here and need no call of a
+// recursive function.
 pub fn put_number(buf: &mut [u8], at: usize, n: u32) -> usize
     requires { ⌜ at + length (decimal n) ≤ length (now buf) ⌝ }
     ensures { λ r. ⌜ (r ≡ at + length (decimal n)) × (now (buf .exit) ≡ written (now (buf .entry)) at (decimal n)) ⌝ }
@@ -38,8 +39,19 @@ pub fn put_number(buf: &mut [u8], at: usize, n: u32) -> usize
     if n < 10 {
         return put_byte(buf, at, digit(n));
     }
-    let last = put_number(buf, at, n / 10);
-    put_byte(buf, last, digit(n % 10))
+    put_digits(buf, at, n)
+}
+
+// The same for a number of any length: the digits before the last, then the last.
+fn put_digits(buf: &mut [u8], at: usize, x: u32) -> usize
+    requires { ⌜ at + length (decimal x) ≤ length (now buf) ⌝ }
+    ensures { λ r. ⌜ (r ≡ at + length (decimal x)) × (now (buf .exit) ≡ written (now (buf .entry)) at (decimal x)) ⌝ }
+{
+    if x < 10 {
+        return put_byte(buf, at, digit(x));
+    }
+    let last = put_digits(buf, at, x / 10);
+    put_byte(buf, last, digit(x % 10))
 }
 
 // The byte of a digit.

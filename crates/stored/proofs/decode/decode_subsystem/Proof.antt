@@ -38,10 +38,9 @@ element-write-line-3 c = search needs
 
 -- src/decode.rt:23:1
 returns : tie.Need-returns
-returns c = 
+returns c =
     let s = c .before .before .before .before .before in
-    let line = s .args .line .now in
-    (
+    let line = s .args .line .now in (
       head-line-is line (s .pre .1) _ _ _ (s .args .value .now) (c .before .before .before .number-at .ensures) (c .before .before .number-at2 .ensures) (c .wide .ensures .0),
       started-line line (s .pre .1) _ _ _,
     )

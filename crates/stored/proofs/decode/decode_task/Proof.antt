@@ -45,10 +45,9 @@ element-write-line-3 c = search needs
 
 -- src/decode.rt:43:5
 loop-holds : tie.Need-loop-holds Inv-loop μ-loop
-loop-holds c = 
+loop-holds c =
     let s = c .before .before .before .before in
-    let line = s .args .line .now in
-    (
+    let line = s .args .line .now in (
       search needs,
       started-line line (s .pre .1) _ _ _,
       line-begins (s .args .m) (s .args .value .now) line (s .pre .1) _ _ _ (c .before .before .number-at .ensures) (c .before .number-at2 .ensures) (c .number-at3 .ensures),
@@ -93,8 +92,7 @@ loop-again c =
     let k = c .before .before in
     let s = k .before .before .before .before .before in
     let a = s .args in
-    let known = k .loop .inv in
-    (
+    let known = k .loop .inv in (
       search needs,
       length-set (k .loop .line) (k .loop .l + 3) (c .number-at4 .result) ∙ known .1,
       one-access-more (a .m) (a .value .now) (k .loop .l) (c .number-at4 .result) (k .loop .line) (c .before .loop-test .taken) (s .pre .0 .0) (known .1) (known .2) (c .number-at4 .ensures),
@@ -102,7 +100,7 @@ loop-again c =
 
 -- src/decode.rt:34:1
 returns : tie.Need-returns Inv-loop μ-loop
-returns c = 
+returns c =
     let k = c .before in
     let a = k .before .before .before .before .before .args in
     (line-ends (a .m) (a .value .now) (k .loop .l) (k .loop .line) (omega (arith, c .loop-test .left, k .loop .inv .0)) (k .loop .inv .2), k .loop .inv .1)

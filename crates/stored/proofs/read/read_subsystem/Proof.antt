@@ -78,8 +78,7 @@ decode-subsystem-requires c κs =
     let s = c .before .before .before .before .before .before .before .before in
     let a = s .args in
     let j = c .before .before .before .before .before .judge-subsystem in
-    let v = c .before .value in
-    (
+    let v = c .before .value in (
       le-of-eq (sym (sound-value-length 2 9 subsystemInRange (partFrom (a .file .now) (a .at)) _ _ (j .ensures) (c .before .before .before .answer .given .1) (v .result .now) (v .ensures))),
       s .pre .1 .1 .wide 0 (omega arith),
     )
@@ -103,8 +102,7 @@ read-tasks-requires c κs =
     let head = head-is-read (a .file .now) (a .m) (a .at) _ within (j .ensures) _ (told .1) (v .result .now) _ (v .ensures) (line .0) in
     let fits = tasks-in-range (a .file .now) (a .m) (a .at) _ within (j .ensures) _ (told .1) in
     let written = getD-set-same (a .block .now) 0 _ [] (omega (arith, lines .lines)) in
-    let counted = c .before .count .ensures ∙ ap (λ (xs : List ℕ). getD xs 2 0) written ∙ head .count-is in
-    (
+    let counted = c .before .count .ensures ∙ ap (λ (xs : List ℕ). getD xs 2 0) written ∙ head .count-is in (
       (s .pre .0, (omega (arith, counted, fits), counted)),
       ((first-task-within (a .file .now) (a .m) (a .at) _ within (j .ensures) _ (told .1), lines-kept (a .block .now) 0 _ (omega arith) lines (line .1)), rw written head),
     )
