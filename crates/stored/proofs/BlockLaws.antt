@@ -8,7 +8,7 @@ use Rattle.lists.proofs.UpTo.{upTo-ext}
 use Rattle.table.specs.Meaning.{taskAt, subsystemM}
 use Rattle.table.specs.Grid.{countIn, taskIn, subsystemIn, LineOf}
 use Rattle.table.proofs.GridLaws.{line-means}
-use Rattle.stored.specs.Decode.{HeadLine}
+use Rattle.stored.specs.Reader.{HeadLine}
 use Rattle.stored.specs.Read.{headAt, taskRead, subsystemTo, subsystemFrom}
 use Rattle.stored.proofs.ReadMeaning.{task-of-reading}
 

@@ -12,7 +12,8 @@ use Rattle.table.specs.Meaning.{accessAt}
 use Rattle.table.specs.Grid.{IsLine, LineOf}
 use Rattle.stored.specs.Numbers.{numberSize, numberAt}
 use Rattle.stored.specs.Field.{countAt}
-use Rattle.stored.specs.Decode.{decodedSubsystem, decodedAccess, decodedTask, HeadLine}
+use Rattle.stored.specs.Decode.{decodedSubsystem, decodedAccess, decodedTask}
+use Rattle.stored.specs.Reader.{HeadLine}
 
 -- A line with three numbers stored at its start.
 abbrev pub startedWith : List ℕ → ℕ → ℕ → ℕ → List ℕ

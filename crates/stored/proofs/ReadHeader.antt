@@ -16,7 +16,8 @@ use Rattle.stored.specs.declared.ReadAnswer.the-variants.{Refused}
 use Rattle.stored.specs.Field.{valueOf, headerTag, headerLength}
 use Rattle.stored.specs.Judge.{headerInRange, judgeHeader}
 use Rattle.stored.specs.Decode.{decodedHeader}
-use Rattle.stored.specs.Read.{refusedAt, wholeUnless, headerIn, subsystemPlace, bodyRefusal, refusalIn, tableTo, tableIn, readOf, IsBody, IsHead}
+use Rattle.stored.specs.Read.{refusedAt, wholeUnless, headerIn, subsystemPlace, bodyRefusal, refusalIn, tableTo, tableIn, readOf}
+use Rattle.stored.specs.Reader.{IsBody, IsHead}
 use Rattle.stored.proofs.Judging.{sound-length, sound-whole, sound-value, sound-means}
 use Rattle.stored.proofs.ReadTasks.{partFrom, part-to-the-end}
 use Rattle.stored.proofs.ReadSubsystems.{refused-is-not-whole, header-counts}

@@ -32,8 +32,9 @@ use Rattle.stored.specs.declared.ReadAnswer.the-variants.{Whole, Refused
 use Rattle.stored.specs.declared.Part.{Part}
 use Rattle.stored.specs.Field.{fieldSize, valueOf, headerTag, headerLength, subsystemTag, subsystemLength, version}
 use Rattle.stored.specs.Judge.{headerInRange, subsystemInRange, judgeSubsystem}
-use Rattle.stored.specs.Decode.{decodedHeader, decodedSubsystem, HeadLine}
-use Rattle.stored.specs.Read.{Refusal, refusedAt, wholeUnless, headerIn, headAt, taskPlace, placeBehind, subsystemPlace, tasksRefusal, refusalFrom, subsystemRefusal, leftOver, bodyRefusal, subsystemFrom, subsystemRead, tableTo, tableIn, IsPart, IsBody}
+use Rattle.stored.specs.Decode.{decodedHeader, decodedSubsystem}
+use Rattle.stored.specs.Read.{Refusal, refusedAt, wholeUnless, headerIn, headAt, taskPlace, placeBehind, subsystemPlace, tasksRefusal, refusalFrom, subsystemRefusal, leftOver, bodyRefusal, subsystemFrom, subsystemRead, tableTo, tableIn}
+use Rattle.stored.specs.Reader.{HeadLine, IsPart, IsBody}
 use Rattle.stored.proofs.Judging.{SoundField, sound-length, sound-whole, sound-value, sound-means}
 use Rattle.stored.proofs.ReadMeaning.{subsystem-of-reading}
 use Rattle.stored.proofs.ReadTasks.{partFrom, part-to-the-end, whole-within, first-task-stands}

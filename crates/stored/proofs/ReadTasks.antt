@@ -21,8 +21,9 @@ use Rattle.stored.specs.declared.ReadAnswer.{ReadAnswer}
 use Rattle.stored.specs.declared.ReadAnswer.the-variants.{Whole}
 use Rattle.stored.specs.Field.{fieldSize, valueOf, subsystemLength, taskTag, taskLength}
 use Rattle.stored.specs.Judge.{anyValue, judgeTask}
-use Rattle.stored.specs.Decode.{decodedTask, HeadLine}
-use Rattle.stored.specs.Read.{refusedAt, wholeUnless, headAt, taskPlace, placeBehind, taskRefusal, tasksRefusal, taskRead, IsPart}
+use Rattle.stored.specs.Decode.{decodedTask}
+use Rattle.stored.specs.Read.{refusedAt, wholeUnless, headAt, taskPlace, placeBehind, taskRefusal, tasksRefusal, taskRead}
+use Rattle.stored.specs.Reader.{HeadLine, IsPart}
 use Rattle.stored.proofs.Judging.{sound-length, sound-whole, sound-value}
 use Rattle.stored.proofs.BlockLaws.{block-means}
 

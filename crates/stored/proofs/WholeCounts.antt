@@ -25,7 +25,8 @@ use Rattle.stored.specs.declared.Reading.{Reading}
 use Rattle.stored.specs.declared.Head.{Head}
 use Rattle.stored.specs.Field.{headerTag, headerLength, subsystemTag, subsystemLength}
 use Rattle.stored.specs.Judge.{headerInRange, subsystemInRange, judgeHeader, judgeSubsystem}
-use Rattle.stored.specs.Read.{refusedAt, headerIn, headAt, subsystemPlace, tasksRefusal, refusalFrom, subsystemRefusal, leftOver, bodyRefusal, refusalIn, tableTo, tableIn, readOf, IsHead}
+use Rattle.stored.specs.Read.{refusedAt, headerIn, headAt, subsystemPlace, tasksRefusal, refusalFrom, subsystemRefusal, leftOver, bodyRefusal, refusalIn, tableTo, tableIn, readOf}
+use Rattle.stored.specs.Reader.{IsHead}
 use Rattle.stored.specs.Taken.{tableWith, BlocksFit}
 use Rattle.stored.proofs.ReadSubsystems.{header-counts, head-count}
 use Rattle.stored.proofs.ReadMeaning.{tasks-read, subsystem-read}

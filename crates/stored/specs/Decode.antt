@@ -1,7 +1,6 @@
 -- What a field's value says, given as the caller's own bytes. Times are taken as they stand, unjudged; unused slots are
 -- zeros. Resources and tasks count from 0 here. Assumes nothing.
 use Prim.Native.Nat.{ℕ, _*_}
-use mathlib.Core.Path.{_≡_}
 use mathlib.Core.List.{List}
 use lib.ListN.{getD, replicate}
 use Rattle.lists.specs.Range.{padded}
@@ -43,13 +42,3 @@ decodedTask m value =
       deadline = numberAt value (2 * numberSize);
       access = padded (decodedAccess value) 0 most m;
     }
-
-------------------------------------------------------------------------
--- What the value of a subsystem's field says, as a line of a grid; a task's line is `LineOf` of `table`. What stands in the line
--- behind these numbers means nothing.
-
--- The line of a subsystem: P, Q, n.
-pub record HeadLine (head : Subsystem) (line : List ℕ) : Type 0 where
-  pub period-is : getD line 0 0 ≡ head .period
-  pub budget-is : getD line 1 0 ≡ head .budget
-  pub count-is : getD line 2 0 ≡ head .count
