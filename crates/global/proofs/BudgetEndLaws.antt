@@ -1,6 +1,6 @@
 -- Laws of budget ends (step 9): every job of an active period has one, none is above the active period, each lies after the
--- job's release, the first job's search starts at B + Q, and the next job's where this one ended, and Q + X further on.
--- Assumes nothing.
+-- job's release, the first job's search starts at B + Q, and the next job's where this one ended, and Q + X further on. Where
+-- nothing is held the last one is the active period. Assumes nothing.
 use Prim.Native.Nat.{ℕ, suc, _+_, _*_, _≤_, _<_}
 use native.Mathlib.Nat.{mul-le-mul-right, suc-mul, mul-le-mul-left}
 use native.Mathlib.Numerals.{add-one}
@@ -14,13 +14,13 @@ use Rattle.least.specs.Up.{up}
 use Rattle.least.specs.Demand.{demand, total}
 use Rattle.least.specs.Least.{least}
 use Rattle.least.specs.Search.{Search, Comes-down, IsLeast}
-use Rattle.least.proofs.Up.{up-is-least}
+use Rattle.least.proofs.Up.{up-mono, up-is-least}
 use Rattle.least.proofs.Demand.{demand-mono}
 use Rattle.least.proofs.Search.{stands-at-one, stands-at-floor, stands-below, least-stands, least-is-one, stands-warm}
 use Rattle.least.proofs.LeastLaws.{least-below}
 use Rattle.table.specs.Limits.{horizon}
 use Rattle.global.specs.Blocking.{numberOr}
-use Rattle.global.specs.View.{View, cost}
+use Rattle.global.specs.View.{View, overrun, cost}
 use Rattle.global.specs.Ends.{jobs, ahead, budgetEnd}
 use Rattle.global.specs.Sound.{Sound-view, Counted, Budget-from}
 use Rattle.global.proofs.ActiveLaws.{budget-at-most, period-pos, higher-loads, active-from, active-within, active-parts, active-before, released-within}
@@ -157,3 +157,27 @@ unfolding Budget-from
 budget-end-next v sv {k} ct next =
     let i = budget-end-is-least v sv next in
     stands-below (budgetTotal v (k + 1)) (next-starts v sv ct) (i .from) (omega (arith, i .solution))
+
+-- Where nothing is held, the budget of the last job ends with the active period: both wait for the same.
+module _ (v : View) (sv : Sound-view v) (none-held : overrun v ≡ 0) {k : ℕ} (ct : Counted v k) (last : jobs v (ct .active) ≡ k + 1) where
+  ahead-of-last : ahead v k ≡ v .blocking + jobs v (ct .active) * cost v
+  unfolding ahead cost
+  ahead-of-last = rw last (rw (add-one k) (omega (arith, none-held, suc-mul k (v .budget + overrun v))))
+
+  -- Before the active period's end no more jobs of its own are released than in all of it.
+  before-last : (y : ℕ) → 1 ≤ y → y < ct .active → y < budgetTotal v k y
+  unfolding jobs
+  before-last y l u =
+      let few : up y (v .period) * cost v ≤ up (ct .active) (v .period) * cost v = mul-le-mul-right (cost v) (up-mono (v .period) (period-pos v sv) (omega arith)) in
+      omega (arith, active-before v sv (ct .is-active) y l u, ahead-of-last, budget-total v k y)
+
+  pub last-ends-active : ct .active ≡ budgetEnd v k
+  last-ends-active = least-is-one (budgetTotal v k) active-is-least-too (budget-end-is-least v sv ct)
+    where
+      active-is-least-too : IsLeast (budgetTotal v k) (ct .active)
+      active-is-least-too =
+          record {
+            from = active-from v sv (ct .is-active);
+            solution = omega (arith, active-parts v sv (ct .is-active), ahead-of-last, budget-total v k (ct .active));
+            before = before-last;
+          }

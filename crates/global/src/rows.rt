@@ -8,6 +8,7 @@ use crate::interfaces::budget;
 use crate::interfaces::period;
 use crate::leading::leading;
 use crate::responses::Own;
+use crate::responses::Worst;
 use crate::responses::largest_response;
 use least::Least;
 use least::least_solution;
@@ -18,10 +19,10 @@ ghost use mathlib.Core.Path.{_≡_};
 ghost use mathlib.Core.Option.{some};
 ghost use Prim.Native.Nat.{_<_};
 ghost use Rattle.global.specs.Interfaces.{interfacesIn};
-ghost use Rattle.global.specs.Ends.{activePeriod};
+ghost use Rattle.global.specs.Ends.{activePeriod, jobs};
 ghost use Rattle.global.specs.Row.{judged, rowFor, rowOf};
 ghost use Rattle.global.specs.Common.{commonOf};
-ghost use Rattle.global.specs.Computed.{seenBy};
+ghost use Rattle.global.specs.Computed.{seenBy, worstOf};
 ghost use Rattle.global.specs.Sound.{Sound, Sound-view};
 
 // A row fits where its response is within the period, else it is late.
@@ -33,6 +34,34 @@ fn judge(period: u32, response: u32) -> Outcome
     } else {
         Outcome::Late(response)
     }
+}
+
+// The largest response over the n jobs of an active period. The only job of one ends with it where nothing is held.
+fn worst_within(
+    periods: &[u32],
+    costs: &[u32],
+    holdings: &[u32],
+    ceilings: &[usize],
+    own: Own,
+    n: u32,
+    active: u32,
+) -> Worst
+    requires { ⌜ Sound-view (seenBy (now periods) (now costs) (now holdings) (now ceilings) own) ⌝ }
+    requires { ⌜ activePeriod (seenBy (now periods) (now costs) (now holdings) (now ceilings) own) ≡ some active ⌝ }
+    requires { ⌜ n ≡ jobs (seenBy (now periods) (now costs) (now holdings) (now ceilings) own) active ⌝ }
+    ensures { λ r. ⌜ r ≡ worstOf (seenBy (now (periods .entry)) (now (costs .entry)) (now (holdings .entry)) (now (ceilings .entry)) own) n ⌝ }
+{
+    let s = own.place;
+    if n == 1 {
+        if costs[s] == own.budget {
+            return Worst {
+                response: active,
+                job: 0,
+                resource: 0,
+            };
+        }
+    }
+    largest_response(periods, costs, holdings, ceilings, own, n)
 }
 
 // The row with an active period.
@@ -51,7 +80,7 @@ fn active_row(
 {
     let s = own.place;
     let n = round_up(active, own.period);
-    let worst = largest_response(periods, costs, holdings, ceilings, own, n);
+    let worst = worst_within(periods, costs, holdings, ceilings, own, n, active);
     Row {
         holding: costs[s] - own.budget,
         failing,

@@ -9,11 +9,11 @@ use Rattle.global.proofs.rows.active_row.Tie as tie
 round-up-requires : tie.Need-round-up-requires
 round-up-requires c κs = (active-from _ (c .before .before .before .before .pre .0) (c .before .before .before .before .pre .1), period-pos _ (c .before .before .before .before .pre .0))
 
-largest-response-requires : tie.Need-largest-response-requires
+worst-within-requires : tie.Need-worst-within-requires
 unfolding jobs
-largest-response-requires c κs =
+worst-within-requires c κs =
     let s = c .before .before .before .before .before in
-    (s .pre .0, record { active = s .args .active; is-active = s .pre .1; all = c .round-up .ensures })
+    (s .pre .0, (s .pre .1, c .round-up .ensures))
 
 mul-t11 : tie.Need-mul-t11
 mul-t11 c = search needs
@@ -30,14 +30,14 @@ judge-requires c κs = search needs
 returns : tie.Need-returns
 returns c =
     let s = c .before .before .before .before .before .before .before .before .before in
-    row-with _ (s .args .failing) (s .args .active) (overrun-computed _ (s .pre .0)) (c .before .before .before .before .round-up .ensures) (c .before .before .before .largest-response .ensures) (c .judge .ensures)
+    row-with _ (s .args .failing) (s .args .active) (overrun-computed _ (s .pre .0)) (c .before .before .before .before .round-up .ensures) (c .before .before .before .worst-within .ensures) (c .judge .ensures)
 
 pub active-row-spec : {M : Type 1} → statement M
 active-row-spec =
     tie.close
     (tie.spec
     round-up-requires
-    largest-response-requires
+    worst-within-requires
     mul-t11
     shared-slice-read-t13
     sub-t14
