@@ -21,7 +21,7 @@ use Rattle.rules.specs.declared.Judged.{Judged}
 use Rattle.rules.specs.declared.Judged.the-variants.{Admitted, Refused}
 use Rattle.rules.specs.Refusal.{numberOf}
 use Rattle.rules.specs.Rules.{place, refusedAt, unlessRefused, subsystemBreaks, taskBreaks, placeBreaks, offenderIn, offenderAt, offender, judgedBy, judgedPastCounts}
-use Rattle.rules.specs.Earlier.{inOrder, earlier, isFirst, judgedAt, judgedOwn, judgedTask, judgedSubsystem}
+use Rattle.rules.specs.Earlier.{inOrder, earlier, isFirst, isRefused, judgedAt, judgedOwn, judgedTask, judgedSubsystem}
 use Rattle.rules.proofs.JudgingLaws.{offender-of-block}
 
 -- Only what was found for each rule matters.
@@ -75,6 +75,11 @@ nothing-earlier found b e = go found (b Range) (b Order) (b Access) e
     go (Refused Range x) none (some y) q e = refl
     go (Refused Range x) none none (some y) e = refl
     go (Refused Range x) none none none e = refl
+
+-- What breaks nothing leaves what was found.
+pub as-it-was : (found next : Judged) → isRefused next ≡ false → found ≡ earlier found next
+as-it-was found Admitted e = refl
+as-it-was found (Refused k p) e = absurd (true≢false e)
 
 ------------------------------------------------------------------------
 -- The ways out of the code that takes the earlier of two

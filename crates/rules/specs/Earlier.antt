@@ -1,7 +1,7 @@
 -- The judgement by rules 2 to 4 in one pass over the places: of two refusals the one by the lower rule counts, and the former
 -- where both are by the same rule. Rule 5 comes behind them. Assumes nothing.
 use Prim.Native.Nat.{ℕ}
-use mathlib.Core.Bool.{Bool, false, cond}
+use mathlib.Core.Bool.{Bool, true, false, cond}
 use mathlib.Core.Option.{Option, none, some, Option·map}
 use lib.Dec.{ltb, eqb}
 use Rattle.table.specs.Meaning.{TaskM, SubsystemM}
@@ -23,6 +23,11 @@ inOrder found =
 abbrev pub isFirst : Judged → Bool
 isFirst Admitted = false
 isFirst (Refused k p) = eqb (numberOf k) 2
+
+-- Whether a judgement is a refusal.
+abbrev pub isRefused : Judged → Bool
+isRefused Admitted = false
+isRefused (Refused k p) = true
 
 -- Of two judgements the one by the lower rule; the former where both are by the same.
 abbrev pub earlier : Judged → Judged → Judged

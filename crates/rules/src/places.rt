@@ -4,7 +4,7 @@ ghost use mathlib.Core.Path.{_≡_};
 ghost use Prim.Native.Nat.{_≤_, _<_};
 ghost use Rattle.table.specs.Limits.{most};
 ghost use Rattle.table.specs.Grid.{taskIn, subsystemIn};
-ghost use Rattle.rules.specs.Earlier.{earlier, isFirst, judgedOwn, judgedTask, judgedSubsystem};
+ghost use Rattle.rules.specs.Earlier.{earlier, isFirst, isRefused, judgedOwn, judgedTask, judgedSubsystem};
 ghost use Rattle.rules.specs.Refusal.{numberOf};
 ghost use Rattle.rules.specs.Slots.{Counted};
 use crate::Judged;
@@ -61,6 +61,16 @@ pub fn is_first(found: Judged) -> bool
     }
 }
 
+// Whether a judgement is a refusal.
+pub fn is_refused(found: Judged) -> bool
+    ensures { λ r. ⌜ r ≡ isRefused found ⌝ }
+{
+    match found {
+        Judged::Admitted => false,
+        Judged::Refused(_, _) => true,
+    }
+}
+
 // The subsystem's own place, in the table's subsystem of this number.
 fn judged_own(block: &[[u32; LINE]; BLOCK], m: usize, subsystem: u8) -> Judged
     requires { ⌜ Counted (now block) m ⌝ }
@@ -94,24 +104,7 @@ fn judged_task(block: &[[u32; LINE]; BLOCK], m: usize, i: usize, place: Place) -
     Judged::Admitted
 }
 
-// What was found so far, with a task's place. Behind a refusal by rule 2 nothing need be looked at.
-fn with_task(
-    found: Judged,
-    block: &[[u32; LINE]; BLOCK],
-    m: usize,
-    i: usize,
-    place: Place,
-) -> Judged
-    requires { ⌜ (m ≤ most) × (i < most) ⌝ }
-    ensures { λ r. ⌜ r ≡ earlier found (judgedTask m place (taskIn m (now (block .entry)) i)) ⌝ }
-{
-    if is_first(found) {
-        return found;
-    }
-    earlier(found, judged_task(block, m, i, place))
-}
-
-// All places of the subsystem of this number.
+// All places of the subsystem of this number. Where a place breaks nothing, what was found stays where it is.
 pub fn judged_subsystem(block: &[[u32; LINE]; BLOCK], m: usize, subsystem: u8) -> Judged
     requires { ⌜ Counted (now block) m ⌝ }
     ensures { λ r. ⌜ r ≡ judgedSubsystem m subsystem (subsystemIn m (now (block .entry))) ⌝ }
@@ -124,7 +117,10 @@ pub fn judged_subsystem(block: &[[u32; LINE]; BLOCK], m: usize, subsystem: u8) -
             subsystem,
             task: (i + 1) as u8,
         };
-        found = with_task(found, block, m, i, place);
+        let next = judged_task(block, m, i, place);
+        if is_refused(next) {
+            found = earlier(found, next);
+        }
         i += 1;
     }
     found

@@ -2,15 +2,19 @@
 use borrow.Author.Needs.{needs}
 use Prim.Native.Nat.{_-_, _≤_}
 use native.Mathlib.Omega.{arith}
-use mathlib.Core.Path.{_≡_}
+use mathlib.Core.Path.{_≡_, sym, ap, _∙_}
+use mathlib.Core.Logic.{⊎-elim}
 use Rattle.table.specs.Grid.{countIn}
-use Rattle.rules.proofs.EarlierLaws.{JudgedTo, judged-own, judged-task, judged-all}
+use Rattle.rules.specs.Earlier.{earlier}
+use Rattle.rules.proofs.EarlierLaws.{as-it-was, JudgedTo, judged-own, judged-task, judged-all}
 use Rattle.rules.proofs.places.judged_subsystem.Statement.{statement}
 use Rattle.rules.proofs.places.judged_subsystem.Tie as tie
 use Rattle.rules.proofs.places.judged_subsystem.Reads as reads
 use Rattle.rules.proofs.places.judged_subsystem.Lts as lts
+use Rattle.rules.proofs.places.earlier.Reads as earlier-reads
+use Rattle.rules.proofs.places.is_refused.Reads as is-refused-reads
 use Rattle.rules.proofs.places.judged_own.Reads as judged-own-reads
-use Rattle.rules.proofs.places.with_task.Reads as with-task-reads
+use Rattle.rules.proofs.places.judged_task.Reads as judged-task-reads
 use Rattle.table.proofs.grid.count.Reads as count-reads
 
 abbrev Inv-loop : tie.InvT-loop
@@ -19,46 +23,60 @@ Inv-loop block m subsystem n found₀ i₀ found i = (n ≡ countIn block) × (i
 abbrev μ-loop : tie.MeasureT-loop
 μ-loop block m subsystem n found₀ i₀ found i = n - i
 
--- src/places.rt:113:9
+-- src/places.rt:112:9
 count-requires : tie.Need-count-requires Inv-loop μ-loop
 count-requires c κs = search needs
 
--- src/places.rt:114:9
+-- src/places.rt:113:9
 judged-own-requires : tie.Need-judged-own-requires Inv-loop μ-loop
 judged-own-requires c κs = search needs
 
--- src/places.rt:116:5
+-- src/places.rt:115:5
 loop-holds : tie.Need-loop-holds Inv-loop μ-loop
 loop-holds c = (search needs, search needs, judged-own _ _ _ _ (c .judged-own .ensures))
 
--- src/places.rt:119:20
-add-t9 : tie.Need-add-t9 Inv-loop μ-loop
-add-t9 c = search needs
+-- src/places.rt:118:20
+add-t10 : tie.Need-add-t10 Inv-loop μ-loop
+add-t10 c = search needs
 
--- src/places.rt:119:19
-cast-t10 : tie.Need-cast-t10 Inv-loop μ-loop
-cast-t10 c = search needs
+-- src/places.rt:118:19
+cast-t11 : tie.Need-cast-t11 Inv-loop μ-loop
+cast-t11 c = search needs
 
--- src/places.rt:121:9
-with-task-requires : tie.Need-with-task-requires Inv-loop μ-loop
-with-task-requires c κs = search needs
+-- src/places.rt:120:13
+judged-task-requires : tie.Need-judged-task-requires Inv-loop μ-loop
+judged-task-requires c κs = search needs
 
--- src/places.rt:122:9
+-- src/places.rt:121:12
+is-refused-requires : tie.Need-is-refused-requires Inv-loop μ-loop
+is-refused-requires c κs = search needs
+
+-- src/places.rt:122:13
+earlier-requires : tie.Need-earlier-requires Inv-loop μ-loop
+earlier-requires c κs = search needs
+
+-- src/places.rt:124:9
 add-i : tie.Need-add-i Inv-loop μ-loop
 add-i c = search needs
 
--- src/places.rt:116:5
+-- src/places.rt:115:5
 loop-less : tie.Need-loop-less Inv-loop μ-loop
 loop-less c = search needs
 
--- src/places.rt:116:5
+-- src/places.rt:115:5
 loop-again : tie.Need-loop-again Inv-loop μ-loop
 loop-again c =
-    let k = c .before .before in
+    let t = c .before .before in
+    let k = t .before .before in
     let s = k .before .before .before in
-    (search needs, search needs, judged-task (s .args .m) (s .args .subsystem) (s .args .block .now) (k .loop .i) (k .loop .found) _ (omega arith) (k .loop .inv .2) (c .with-task .ensures))
+    let found = k .loop .found in (
+      search needs,
+      search needs,
+      judged-task (s .args .m) (s .args .subsystem) (s .args .block .now) (k .loop .i) found _ (omega arith) (k .loop .inv .2)
+          (⊎-elim (λ w. w .2 ∙ w .1 .ensures) (λ w. w .1 ∙ as-it-was found (t .judged-task .result) (sym (c .before .is-refused .ensures) ∙ w .0 .left)) (c .if1 .came) ∙ ap (earlier found) (t .judged-task .ensures)),
+    )
 
--- src/places.rt:109:1
+-- src/places.rt:108:1
 returns : tie.Need-returns Inv-loop μ-loop
 returns c =
     let k = c .before in
@@ -74,9 +92,11 @@ judged-subsystem-spec =
     count-requires
     judged-own-requires
     loop-holds
-    add-t9
-    cast-t10
-    with-task-requires
+    add-t10
+    cast-t11
+    judged-task-requires
+    is-refused-requires
+    earlier-requires
     add-i
     loop-less
     loop-again
