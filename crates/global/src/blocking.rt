@@ -1,8 +1,8 @@
 // How long a lower subsystem can hold up a higher one.
-use crate::ceilings::larger;
 use crate::interfaces::WIDTH;
 use crate::interfaces::budget;
 use crate::interfaces::held;
+use numbers::longer;
 use table::Table;
 ghost use mathlib.Core.Path.{_≡_};
 ghost use mathlib.Core.Bool.{cond};
@@ -37,7 +37,7 @@ fn longest_reaching(
     let mut best: u32 = 0;
     let mut l: usize = 0;
     while l < ceilings.len() {
-        best = larger(best, counted(ceilings[l], s, held(lines, t, l)));
+        best = longer(best, counted(ceilings[l], s, held(lines, t, l)));
         l += 1;
     }
     best
@@ -63,7 +63,7 @@ pub fn blocking_of(
     let mut t = s + 1;
     while t < n {
         if costs[t] != budget(lines, t) {
-            best = larger(best, longest_reaching(lines, t, ceilings, s));
+            best = longer(best, longest_reaching(lines, t, ceilings, s));
         }
         t += 1;
     }

@@ -3,9 +3,10 @@ use crate::interfaces::WIDTH;
 use crate::interfaces::budget;
 use crate::interfaces::held;
 use crate::interfaces::period;
+use numbers::longer;
 use table::Table;
 ghost use mathlib.Core.Path.{_≡_};
-ghost use Prim.Native.Nat.{_<_, _≤_, max};
+ghost use Prim.Native.Nat.{_<_, _≤_};
 ghost use Rattle.lists.specs.Range.{largestTo, padded};
 ghost use Rattle.table.specs.Limits.{most};
 ghost use Rattle.global.specs.Interfaces.{periodAt, heldAt, interfacesIn};
@@ -22,13 +23,6 @@ pub struct Common {
     pub ceilings: [usize; Table::MOST],
 }
 
-// The larger of two numbers.
-pub(crate) fn larger(a: u32, b: u32) -> u32
-    ensures { λ r. ⌜ r ≡ max a b ⌝ }
-{
-    if a < b { b } else { a }
-}
-
 // X(s): the largest holding time over the first m resources.
 pub(crate) fn largest_holding(lines: &[[u32; WIDTH]; Table::MOST], s: usize, m: usize) -> u32
     requires { ⌜ (s < most) × (m ≤ most) ⌝ }
@@ -37,7 +31,7 @@ pub(crate) fn largest_holding(lines: &[[u32; WIDTH]; Table::MOST], s: usize, m: 
     let mut best: u32 = 0;
     let mut l: usize = 0;
     while l < m {
-        best = larger(best, held(lines, s, l));
+        best = longer(best, held(lines, s, l));
         l += 1;
     }
     best

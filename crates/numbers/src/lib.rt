@@ -1,4 +1,4 @@
-// Small steps on numbers that every layer takes: a wider type, the larger of two, a difference cut off at 0. Every
+// Small steps on numbers that every layer takes: a wider type, the larger of two, the longer of two times, a difference cut off at 0. Every
 // function here is proved with no proof file, and the crate assumes nothing of its own. No public function has a
 // `requires`.
 ghost use mathlib.Core.Path.{_≡_};
@@ -20,6 +20,13 @@ pub fn wide(x: u32) -> u64
 
 // The larger of two.
 pub fn larger(a: u64, b: u64) -> u64
+    ensures { λ r. ⌜ r ≡ max a b ⌝ }
+{
+    if a < b { b } else { a }
+}
+
+// The longer of two times.
+pub fn longer(a: u32, b: u32) -> u32
     ensures { λ r. ⌜ r ≡ max a b ⌝ }
 {
     if a < b { b } else { a }

@@ -1,12 +1,13 @@
 // What is out of range or out of order, at one place. The counts are the caller's to have judged by rule 1.
 ghost use mathlib.Core.Path.{_≡_};
 ghost use mathlib.Core.Bool.{_||_};
-ghost use Prim.Native.Nat.{_≤_, _<_, max};
+ghost use Prim.Native.Nat.{_≤_, _<_};
 ghost use lib.Dec.{ltb};
 ghost use Rattle.lists.specs.Range.{largestTo};
 ghost use Rattle.table.specs.Limits.{most, largest};
 ghost use Rattle.table.specs.Grid.{periodIn, budgetIn, separationIn, workIn, deadlineIn, accessIn};
 ghost use Rattle.rules.specs.Rules.{countOut, timeOut};
+use numbers::longer;
 use table::Table;
 use table::grid::BLOCK;
 use table::grid::LINE;
@@ -60,13 +61,6 @@ pub fn longest_of_task(block: &[[u32; LINE]; BLOCK], m: usize, i: usize) -> u32
         l += 1;
     }
     longest
-}
-
-// The longer of two.
-fn longer(a: u32, b: u32) -> u32
-    ensures { λ r. ⌜ r ≡ max a b ⌝ }
-{
-    if a < b { b } else { a }
 }
 
 // Whether a time of task i, or its longest access, is out of range: rule 2.

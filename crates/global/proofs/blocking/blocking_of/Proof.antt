@@ -56,8 +56,8 @@ longest-reaching-requires c κs =
     let s = c .before .before .before .before .before .before .before in
     (omega (arith, few s), omega (arith, ceilings-count s, few-resources-of (s .args .n) (s .args .m) (now (s .args .lines)) (s .pre .0)))
 
-larger-requires : tie.Need-larger-requires Inv-loop μ-loop
-larger-requires c κs = search needs
+longer-requires : tie.Need-longer-requires Inv-loop μ-loop
+longer-requires c κs = search needs
 
 add-t-2 : tie.Need-add-t-2 Inv-loop μ-loop
 add-t-2 c = search needs
@@ -98,7 +98,7 @@ blocking-of-spec =
     shared-slice-read-if1
     budget-requires
     longest-reaching-requires
-    larger-requires
+    longer-requires
     add-t-2
     loop-less
     loop-again

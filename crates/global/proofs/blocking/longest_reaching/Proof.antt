@@ -38,8 +38,8 @@ held-requires c κs = search needs
 counted-requires : tie.Need-counted-requires Inv-loop μ-loop
 counted-requires c κs = search needs
 
-larger-requires : tie.Need-larger-requires Inv-loop μ-loop
-larger-requires c κs = search needs
+longer-requires : tie.Need-longer-requires Inv-loop μ-loop
+longer-requires c κs = search needs
 
 add-l : tie.Need-add-l Inv-loop μ-loop
 add-l c = search needs
@@ -53,7 +53,7 @@ loop-again c =
     let a = c .before .before .before .before .before .before .before .args in
     let h = c .before .before .before .before .before .loop in
     let here = c .before .counted .ensures ∙ ap (λ (x : ℕ). cond (leb (getD (now (a .ceilings)) (h .l) 0) (a .s)) x 0) (c .before .before .held .ensures) in
-    (turn-within _ _ (c .before .before .before .before .loop-test .taken), largest-step (reachingIn (heldAt (now (a .lines)) (a .t)) (now (a .ceilings)) (a .s)) (h .l) (h .inv .1) here (c .larger .ensures))
+    (turn-within _ _ (c .before .before .before .before .loop-test .taken), largest-step (reachingIn (heldAt (now (a .lines)) (a .t)) (now (a .ceilings)) (a .s)) (h .l) (h .inv .1) here (c .longer .ensures))
 
 returns : tie.Need-returns Inv-loop μ-loop
 returns c =
@@ -72,7 +72,7 @@ longest-reaching-spec =
     shared-slice-read-counted
     held-requires
     counted-requires
-    larger-requires
+    longer-requires
     add-l
     loop-less
     loop-again

@@ -25,8 +25,8 @@ loop-holds c = (omega arith, sym (largestTo-zero _))
 held-requires : tie.Need-held-requires Inv-loop μ-loop
 held-requires c κs = search needs
 
-larger-requires : tie.Need-larger-requires Inv-loop μ-loop
-larger-requires c κs = search needs
+longer-requires : tie.Need-longer-requires Inv-loop μ-loop
+longer-requires c κs = search needs
 
 add-l : tie.Need-add-l Inv-loop μ-loop
 add-l c = search needs
@@ -38,7 +38,7 @@ loop-again : tie.Need-loop-again Inv-loop μ-loop
 loop-again c =
     let a = c .before .before .before .before .args in
     let h = c .before .before .before .loop in
-    (turn-within _ _ (c .before .before .loop-test .taken), largest-step (heldAt (now (a .lines)) (a .s)) (h .l) (h .inv .1) (c .before .held .ensures) (c .larger .ensures))
+    (turn-within _ _ (c .before .before .loop-test .taken), largest-step (heldAt (now (a .lines)) (a .s)) (h .l) (h .inv .1) (c .before .held .ensures) (c .longer .ensures))
 
 returns : tie.Need-returns Inv-loop μ-loop
 returns c =
@@ -54,7 +54,7 @@ largest-holding-spec =
     μ-loop
     loop-holds
     held-requires
-    larger-requires
+    longer-requires
     add-l
     loop-less
     loop-again

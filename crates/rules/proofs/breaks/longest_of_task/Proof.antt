@@ -12,7 +12,7 @@ use Rattle.rules.proofs.breaks.longest_of_task.Statement.{statement}
 use Rattle.rules.proofs.breaks.longest_of_task.Tie as tie
 use Rattle.rules.proofs.breaks.longest_of_task.Reads as reads
 use Rattle.rules.proofs.breaks.longest_of_task.Lts as lts
-use Rattle.rules.proofs.breaks.longer.Reads as longer-reads
+use Rattle.numbers.proofs.longer.Reads as longer-reads
 use Rattle.table.proofs.grid.access.Reads as access-reads
 
 abbrev Inv-loop : tie.InvT-loop
