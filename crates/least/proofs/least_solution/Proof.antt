@@ -16,10 +16,10 @@ use Rattle.least.proofs.least_solution.Statement.{statement}
 use Rattle.least.proofs.least_solution.Tie as tie
 
 abbrev Inv-loop : tie.InvT-loop
-Inv-loop periods costs n constant start bound top x₀ x = Stands (total periods costs n constant) x
+Inv-loop periods costs n constant start bound top x₀ left₀ x left = Stands (total periods costs n constant) x
 
 abbrev μ-loop : tie.MeasureT-loop
-μ-loop periods costs n constant start bound top x₀ x = top + 1 - x
+μ-loop periods costs n constant start bound top x₀ left₀ x left = top + 1 - x
 
 overloaded-requires : tie.Need-overloaded-requires Inv-loop μ-loop
 overloaded-requires c κs = search needs
@@ -54,8 +54,8 @@ demand-in-requires c κs =
 add-next : tie.Need-add-next Inv-loop μ-loop
 add-next c = search needs
 
-cast-t14 : tie.Need-cast-t14 Inv-loop μ-loop
-cast-t14 c = search needs
+cast-t15 : tie.Need-cast-t15 Inv-loop μ-loop
+cast-t15 c = search needs
 
 returns-2 : tie.Need-returns-2 Inv-loop μ-loop
 returns-2 c =
@@ -63,14 +63,21 @@ returns-2 c =
     let found = stands-found _ (c .before .before .before .loop .inv) (sym (c .if2 .taken) ∙ next-is (c .before)) in
     sym (ap answered (least-found _ _ _ _ _ found (omega (arith, c .before .before .before .before .before .wide .ensures .0))))
 
+onwards-requires : tie.Need-onwards-requires Inv-loop μ-loop
+onwards-requires c κs =
+    let s = c .before .before .before .before .before .before .before .before .before .before in
+    (s .pre .0 .loads, (s .pre .0 .constant-small, rw (next-is (c .before)) (stands-next _ (total-mono _ _ _ _ (s .pre .0 .loads)) (c .before .before .before .loop .inv))))
+
+one-fewer-requires : tie.Need-one-fewer-requires Inv-loop μ-loop
+one-fewer-requires c κs = search needs
+
 loop-less : tie.Need-loop-less Inv-loop μ-loop
 loop-less c =
-    omega (arith, c .before .before .before .loop .inv .rises, next-is (c .before), c .if2 .left)
+    let t = c .before .before in
+    omega (arith, t .before .before .before .loop .inv .rises, next-is (t .before), t .if2 .left, c .before .onwards .ensures .1)
 
 loop-again : tie.Need-loop-again Inv-loop μ-loop
-loop-again c =
-    let s = c .before .before .before .before .before .before .before .before .before .before in
-    rw (next-is (c .before)) (stands-next _ (total-mono _ _ _ _ (s .pre .0 .loads)) (c .before .before .before .loop .inv))
+loop-again c = c .before .onwards .ensures .0
 
 returns-3 : tie.Need-returns-3 Inv-loop μ-loop
 returns-3 c =
@@ -90,8 +97,10 @@ least-solution-spec =
     cast-demand-in
     demand-in-requires
     add-next
-    cast-t14
+    cast-t15
     returns-2
+    onwards-requires
+    one-fewer-requires
     loop-less
     loop-again
     returns-3)
