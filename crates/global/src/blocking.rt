@@ -2,12 +2,9 @@
 use crate::interfaces::WIDTH;
 use crate::interfaces::budget;
 use crate::interfaces::held;
-use numbers::longer;
 use table::Table;
 ghost use mathlib.Core.Path.{_≡_};
-ghost use mathlib.Core.Bool.{cond};
-ghost use Prim.Native.Nat.{_<_, _≤_};
-ghost use lib.Dec.{leb};
+ghost use Prim.Native.Nat.{_<_, _≤_, max};
 ghost use lib.ListN.{length};
 ghost use Rattle.lists.specs.Range.{largestTo, upTo};
 ghost use Rattle.table.specs.Limits.{most};
@@ -17,34 +14,35 @@ ghost use Rattle.global.specs.Blocking.{outerCeiling, blocking};
 ghost use Rattle.global.specs.Blocked.{reachingIn};
 ghost use Rattle.global.specs.Sound.{Sound};
 
-// A holding time x counts where its resource's ceiling reaches s.
-fn counted(ceiling: usize, s: usize, x: u32) -> u32
-    ensures { λ r. ⌜ r ≡ cond (leb ceiling s) x 0 ⌝ }
-{
-    if ceiling <= s { x } else { 0 }
-}
-
-// The longest that subsystem t holds a resource whose ceiling reaches s.
+// The longest that subsystem t holds a resource whose ceiling reaches s, or `former`, the longest so far. A resource that is held
+// no longer than that needs no look at its ceiling.
 fn longest_reaching(
     lines: &[[u32; WIDTH]; Table::MOST],
     t: usize,
     ceilings: &[usize],
     s: usize,
+    former: u32,
 ) -> u32
     requires { ⌜ (t < most) × (length (now ceilings) ≤ most) ⌝ }
-    ensures { λ r. ⌜ r ≡ largestTo (reachingIn (heldAt (now (lines .entry)) t) (now (ceilings .entry)) s) (length (now (ceilings .entry))) ⌝ }
+    ensures { λ r. ⌜ r ≡ max former (largestTo (reachingIn (heldAt (now (lines .entry)) t) (now (ceilings .entry)) s) (length (now (ceilings .entry)))) ⌝ }
 {
-    let mut best: u32 = 0;
+    let mut best = former;
     let mut l: usize = 0;
     while l < ceilings.len() {
-        best = longer(best, counted(ceilings[l], s, held(lines, t, l)));
+        let x = held(lines, t, l);
+        if best < x {
+            if ceilings[l] <= s {
+                best = x;
+            }
+        }
         l += 1;
     }
     best
 }
 
-// B(s): the longest that a lower subsystem holds a resource whose ceiling reaches s. A subsystem that costs its budget and no
-// more holds nothing, and is passed over. `m` stands for the contract's sake: the ceilings are as many.
+// B(s): the longest that a lower subsystem holds a resource whose ceiling reaches s. A subsystem t that holds none longer than the
+// longest so far is passed over: what it costs beyond its budget is X(t). `m` stands for the contract's sake: the ceilings are
+// as many.
 pub fn blocking_of(
     lines: &[[u32; WIDTH]; Table::MOST],
     n: usize,
@@ -62,8 +60,8 @@ pub fn blocking_of(
     let mut best: u32 = 0;
     let mut t = s + 1;
     while t < n {
-        if costs[t] != budget(lines, t) {
-            best = longer(best, longest_reaching(lines, t, ceilings, s));
+        if best < costs[t] - budget(lines, t) {
+            best = longest_reaching(lines, t, ceilings, s, best);
         }
         t += 1;
     }

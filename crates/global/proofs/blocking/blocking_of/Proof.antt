@@ -14,7 +14,7 @@ use Rattle.table.specs.Limits.{most}
 use Rattle.global.specs.Interfaces.{interfacesIn}
 use Rattle.global.specs.Blocking.{blockingBy}
 use Rattle.global.proofs.MoreRange.{largest-step}
-use Rattle.global.proofs.BlockingLaws.{higher-block-not, blocking-over-slots, blocking-by-slot, blocking-by-none}
+use Rattle.global.proofs.BlockingLaws.{higher-block-not, blocking-over-slots, blocking-by-slot, costs-beyond, blocking-by-less}
 use Rattle.global.proofs.Slots.{few-of, few-resources-of}
 use Rattle.global.proofs.blocking.blocking_of.Statement.{statement}
 use Rattle.global.proofs.blocking.blocking_of.Tie as tie
@@ -48,6 +48,12 @@ mul-if1 c = omega (arith, few (c .before .before .before .before))
 shared-slice-read-if1 : tie.Need-shared-slice-read-if1 Inv-loop μ-loop
 shared-slice-read-if1 c = omega (arith, costs-count (c .before .before .before .before .before))
 
+sub-if1 : tie.Need-sub-if1 Inv-loop μ-loop
+sub-if1 c =
+    let s = c .before .before .before .before .before .before in
+    let a = s .args in
+    omega (arith, costs-beyond (a .n) (a .m) (now (a .lines)) (a .s) (now (a .costs)) (s .pre .1 .0) (c .before .before .before .loop .t) (c .before .before .loop-test .taken), c .budget .ensures)
+
 budget-requires : tie.Need-budget-requires Inv-loop μ-loop
 budget-requires c κs = omega (arith, few (c .before .before .before .before .before))
 
@@ -55,9 +61,6 @@ longest-reaching-requires : tie.Need-longest-reaching-requires Inv-loop μ-loop
 longest-reaching-requires c κs =
     let s = c .before .before .before .before .before .before .before in
     (omega (arith, few s), omega (arith, ceilings-count s, few-resources-of (s .args .n) (s .args .m) (now (s .args .lines)) (s .pre .0)))
-
-longer-requires : tie.Need-longer-requires Inv-loop μ-loop
-longer-requires c κs = search needs
 
 add-t-2 : tie.Need-add-t-2 Inv-loop μ-loop
 add-t-2 c = search needs
@@ -70,12 +73,11 @@ loop-again c =
     let s = c .before .before .before .before .before .before .before in
     let a = s .args in
     let h = c .before .before .before .before .loop in
-    let here = blocking-by-slot (a .n) (a .m) (now (a .lines)) (a .s) (now (a .ceilings)) (s .pre .1 .1 .0) (h .t) (h .inv .0) (c .before .before .before .loop-test .taken) in
-    let none = blocking-by-none (a .n) (a .m) (now (a .lines)) (a .s) (now (a .costs)) (s .pre .1 .0) (h .t) (c .before .before .before .loop-test .taken) in (
+    let here = blocking-by-slot (a .n) (a .m) (now (a .lines)) (a .s) (now (a .ceilings)) (s .pre .1 .1 .0) (h .t) (h .inv .0) (c .before .before .before .loop-test .taken) in (
       omega arith,
       turn-within _ _ (c .before .before .before .loop-test .taken),
-      ⊎-elim (λ w. w .3 ∙ largest-step (blockingBy (interfacesIn (a .n) (a .m) (now (a .lines))) (a .s)) (h .t) (h .inv .2) (w .1 .ensures ∙ here) (w .2 .ensures))
-          (λ w. w .1 ∙ h .inv .2 ∙ none (w .0 .left ∙ c .before .budget .ensures))
+      ⊎-elim (λ w. w .2 ∙ largest-step (blockingBy (interfacesIn (a .n) (a .m) (now (a .lines))) (a .s)) (h .t) (h .inv .2) here (w .1 .ensures))
+          (λ w. w .1 ∙ blocking-by-less (a .n) (a .m) (now (a .lines)) (a .s) (now (a .costs)) (s .pre .1 .0) (h .t) (c .before .before .before .loop-test .taken) (h .inv .2) (c .before .budget .ensures) (omega (arith, w .0 .left)))
           (c .if1 .came),
     )
 
@@ -97,8 +99,8 @@ blocking-of-spec =
     mul-if1
     shared-slice-read-if1
     budget-requires
+    sub-if1
     longest-reaching-requires
-    longer-requires
     add-t-2
     loop-less
     loop-again
