@@ -1,10 +1,9 @@
--- Which resources lead: the steps of the search for one that beats, and that every resource has one that leads it. Assumes nothing.
-use Prim.Native.Nat.{ℕ, _+_, _-_, _≤_, _<_}
-use native.Mathlib.Nat.{sub-zero}
+-- Which resources lead, and that every resource has one that leads it. Assumes nothing.
+use Prim.Native.Nat.{ℕ, _≤_, _<_}
 use native.Mathlib.Omega.{arith}
 use native.Mathlib.Decide.{ℕ-discrete}
-use mathlib.Core.Path.{_≡_, refl, sym, ap, ap₂, _∙_}
-use mathlib.Core.Bool.{Bool, true, false, cond}
+use mathlib.Core.Path.{_≡_, refl, sym, ap, _∙_}
+use mathlib.Core.Bool.{Bool, true, false, cond, true≢false}
 use mathlib.Core.Option.{Option, none, some}
 use mathlib.Core.Logic.{_⊎_, inl, inr, ⊎-elim}
 use lib.Dec.{eqb, ltb}
@@ -12,40 +11,14 @@ use borrow.Author.Tests.{eq-eqb, ne-eqb, eqb-true, eqb-false, le-ltb}
 use Rattle.lists.proofs.Over.{le-or-lt, below-largest}
 use Rattle.global.proofs.MoreRange.{atLargest, first-largest}
 use Rattle.lists.specs.Range.{largestTo, firstSuch}
-use Rattle.lists.proofs.First.{firstSuch-here, firstSuch-next, firstSuch-over, firstSuch-nowhere, IsFirstSuch}
+use Rattle.lists.proofs.First.{firstSuch-nowhere, firstSuch-none, firstSuch-means, IsFirstSuch}
 use Rattle.global.specs.Leading.{beats, beatenBy, unbeaten, led}
 
 -- Two numbers are the same or not.
-same-or-not : (a b : ℕ) → (a ≡ b) ⊎ (a ≡ b → ⊥)
+pub same-or-not : (a b : ℕ) → (a ≡ b) ⊎ (a ≡ b → ⊥)
 same-or-not a b = elim (ℕ-discrete a b) [ yes e ↦ inl e | no n ↦ inr n ]
 
--- What is left of the search for a resource that beats l when it stands at j.
-abbrev pub leftBeaten : (ℕ → ℕ) → (ℕ → ℕ) → ℕ → ℕ → ℕ → Option ℕ
-leftBeaten h c m l j = firstSuch (beatenBy h c l) (m - j) j
-
 module _ (h c : ℕ → ℕ) (m l : ℕ) where
-  by-search : {o : Option ℕ} → leftBeaten h c m l 0 ≡ o → led h c m l ≡ unbeaten (h l) o
-  unfolding led
-  by-search {o} e =
-      ap (λ (n : ℕ). unbeaten (h l) (firstSuch (beatenBy h c l) n 0)) (sym (sub-zero m)) ∙ ap (unbeaten (h l)) e
-
-  -- What the test says from holding times that are computed.
-  pub beaten-is : (j : ℕ) {x y : ℕ} {b : Bool} → x ≡ h j → y ≡ h l → b ≡ beats (c j) x j (c l) y l → b ≡ beatenBy h c l j
-  unfolding beatenBy
-  beaten-is j ex ey eb = eb ∙ ap₂ (λ (x y : ℕ). beats (c j) x j (c l) y l) ex ey
-
-  -- One that beats: l does not lead.
-  pub led-here : (j : ℕ) → j < m → true ≡ beatenBy h c l j → leftBeaten h c m l j ≡ leftBeaten h c m l 0 → 0 ≡ led h c m l
-  led-here j u b e = sym (by-search (sym e ∙ firstSuch-here (beatenBy h c l) m j u (sym b)))
-
-  -- One that does not: the search goes on.
-  pub led-next : (j : ℕ) → j < m → false ≡ beatenBy h c l j → leftBeaten h c m l (j + 1) ≡ leftBeaten h c m l j
-  led-next j u b = sym (firstSuch-next (beatenBy h c l) m j u (sym b))
-
-  -- None: l leads.
-  pub led-over : (j : ℕ) → m ≤ j → leftBeaten h c m l j ≡ leftBeaten h c m l 0 → h l ≡ led h c m l
-  led-over j u e = sym (by-search (sym e ∙ firstSuch-over (beatenBy h c l) m j u))
-
   -- A resource leads, or counts as not held.
   pub leads-or-not : (led h c m l ≡ h l) ⊎ (led h c m l ≡ 0)
   unfolding led
@@ -60,9 +33,28 @@ module _ (h c : ℕ → ℕ) (m l : ℕ) where
   led-none e = ⊎-elim (λ (q : led h c m l ≡ h l). sym (q ∙ e)) (λ (q : led h c m l ≡ 0). sym q) leads-or-not
 
   -- Where nothing beats it, it leads.
-  leads : ((j : ℕ) → j < m → beatenBy h c l j ≡ false) → led h c m l ≡ h l
+  pub leads : ((j : ℕ) → j < m → beatenBy h c l j ≡ false) → led h c m l ≡ h l
   unfolding led
   leads u = ap (unbeaten (h l)) (firstSuch-nowhere (beatenBy h c l) m 0 (λ j a b. u j (omega arith)))
+
+  -- Where one beats it, it does not.
+  pub led-beaten : (j : ℕ) → j < m → beatenBy h c l j ≡ true → led h c m l ≡ 0
+  unfolding led
+  led-beaten j u b = go (firstSuch (beatenBy h c l) m 0) refl
+    where
+      go : (o : Option ℕ) → firstSuch (beatenBy h c l) m 0 ≡ o → unbeaten (h l) o ≡ 0
+      go (some k) e = refl
+      go none e = absurd (true≢false (sym b ∙ firstSuch-none (beatenBy h c l) m 0 e j (omega arith) (omega arith)))
+
+  -- It is beaten by one, or by none.
+  pub beaten-or-not : ((j : ℕ) × (j < m) × (beatenBy h c l j ≡ true)) ⊎ ((j : ℕ) → j < m → beatenBy h c l j ≡ false)
+  beaten-or-not = go (firstSuch (beatenBy h c l) m 0) refl
+    where
+      go : (o : Option ℕ) → firstSuch (beatenBy h c l) m 0 ≡ o → ((j : ℕ) × (j < m) × (beatenBy h c l j ≡ true)) ⊎ ((j : ℕ) → j < m → beatenBy h c l j ≡ false)
+      go (some k) e =
+          let i = firstSuch-means (beatenBy h c l) m 0 k e in
+          inl (k, omega (arith, i .within), i .passes)
+      go none e = inr (λ j u. firstSuch-none (beatenBy h c l) m 0 e j (omega arith) (omega arith))
 
 module _ (h c : ℕ → ℕ) (m : ℕ) where
   -- The holding times of the resources with ceiling r.

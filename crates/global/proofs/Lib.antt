@@ -15,6 +15,7 @@ pub mod ResponseLaws
 pub mod JobsLaws
 pub mod RowLaws
 pub mod LeadingLaws
+pub mod EnteringLaws
 pub mod LedLaws
 pub mod SeenLaws
 pub mod RowMeaning

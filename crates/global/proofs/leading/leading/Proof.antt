@@ -1,4 +1,5 @@
--- `global::leading::leading` meets its contract. The loop's invariant: the array is filled up to l. Assumes nothing.
+-- `global::leading::leading` meets its contract. The loop's invariant: the array is filled up to l, as if there were no resources
+-- behind. Assumes nothing.
 use Prim.Native.Nat.{_≤_, _-_}
 use native.Mathlib.Omega.{arith}
 use mathlib.Core.Path.{_≡_, sym, ap, _∙_}
@@ -11,12 +12,11 @@ use Rattle.lists.proofs.UpTo.{padded-none}
 use Rattle.table.specs.Limits.{most}
 use Rattle.global.specs.Interfaces.{heldAt}
 use Rattle.global.specs.Leading.{ceilingAt, led}
-use Rattle.global.proofs.Slots.{filled-next}
 use Rattle.global.proofs.leading.leading.Statement.{statement}
 use Rattle.global.proofs.leading.leading.Tie as tie
 
 abbrev Inv-loop : tie.InvT-loop
-Inv-loop lines s ceilings deciding₀ l₀ deciding l = (l ≤ length ceilings) × (deciding ≡ padded (led (heldAt lines s) (ceilingAt ceilings) (length ceilings)) 0 most l)
+Inv-loop lines s ceilings deciding₀ l₀ deciding l = (l ≤ length ceilings) × (deciding ≡ padded (led (heldAt lines s) (ceilingAt ceilings) l) 0 most l)
 
 abbrev μ-loop : tie.MeasureT-loop
 μ-loop lines s ceilings deciding₀ l₀ deciding l = length ceilings - l
@@ -24,30 +24,25 @@ abbrev μ-loop : tie.MeasureT-loop
 loop-holds : tie.Need-loop-holds Inv-loop μ-loop
 loop-holds c = (omega arith, sym (padded-none _ 0 most))
 
-held-if-leading-requires : tie.Need-held-if-leading-requires Inv-loop μ-loop
-held-if-leading-requires c κs = search needs
-
-mul-deciding : tie.Need-mul-deciding Inv-loop μ-loop
-mul-deciding c = search needs
-
-array-write-deciding : tie.Need-array-write-deciding Inv-loop μ-loop
-array-write-deciding c = search needs
+with-resource-requires : tie.Need-with-resource-requires Inv-loop μ-loop
+with-resource-requires c κs =
+    let s = c .before .before .before .before in
+    ((s .pre .0, s .pre .1, c .before .loop-test .taken), c .before .before .loop .inv .1)
 
 add-l : tie.Need-add-l Inv-loop μ-loop
 add-l c = search needs
 
 loop-less : tie.Need-loop-less Inv-loop μ-loop
-loop-less c = turn-less _ _ (c .before .loop-test .taken)
+loop-less c = turn-less _ _ (c .before .before .loop-test .taken)
 
 loop-again : tie.Need-loop-again Inv-loop μ-loop
-loop-again c =
-    let h = c .before .before .loop in
-    (turn-within _ _ (c .before .loop-test .taken), filled-next _ _ (h .l) _ (h .inv .1) (c .held-if-leading .ensures) (omega arith))
+loop-again c = (turn-within _ _ (c .before .before .loop-test .taken), c .with-resource .ensures)
 
 returns : tie.Need-returns Inv-loop μ-loop
 returns c =
-    let e : c .before .loop .l ≡ length (now (c .before .before .before .args .ceilings)) = omega arith in
-    c .before .loop .inv .1 ∙ ap (padded _ 0 most) e
+    let a = c .before .before .before .args in
+    let e : c .before .loop .l ≡ length (now (a .ceilings)) = omega arith in
+    c .before .loop .inv .1 ∙ ap (λ n. padded (led (heldAt (now (a .lines)) (a .s)) (ceilingAt (now (a .ceilings))) n) 0 most n) e
 
 pub leading-spec : {M : Type 1} → statement M
 leading-spec =
@@ -56,9 +51,7 @@ leading-spec =
     Inv-loop
     μ-loop
     loop-holds
-    held-if-leading-requires
-    mul-deciding
-    array-write-deciding
+    with-resource-requires
     add-l
     loop-less
     loop-again
