@@ -119,14 +119,7 @@ module _ (block : List (List ℕ)) (l : ℕ) where
 pub work-turn : (block : List (List ℕ)) (j sum w : ℕ) → sum ≡ sumTo (workIn block) j → w ≡ workIn block j → sum + w ≡ sumTo (workIn block) (j + 1)
 work-turn block j sum w e f = rw (sumTo-suc (workIn block) j, e, f) refl
 
--- A turn of the largest over the tasks.
-pub longest-turn : (block : List (List ℕ)) (l i most x : ℕ) → most ≡ largestTo (accessTo block l) i → x ≡ accessIn block i l → max most x ≡ largestTo (accessTo block l) (i + 1)
-longest-turn block l i most x e f = rw (largestTo-suc (accessTo block l) i, e, f) refl
-
--- A turn of the largest over the resources.
-pub holding-step : (u : SubsystemM) (l most x : ℕ) → most ≡ largestTo (resourceHolding u) l → x ≡ resourceHolding u l → max most x ≡ largestTo (resourceHolding u) (l + 1)
-holding-step u l most x e f = rw (largestTo-suc (resourceHolding u) l, e, f)
-
+-- The largest over the resources.
 pub holding-is : (m l : ℕ) (u : SubsystemM) → l ≡ m → largestTo (resourceHolding u) l ≡ holding m u
 unfolding holding
 holding-is m l u e = rw e

@@ -1,12 +1,13 @@
 // Steps 1 and 2 for one subsystem, whose block is lent: the inner ceiling and the holding times. The counts are the caller's
 // to have judged by rule 1 (`Slots`); times may be anything, since sums of eight 32-bit numbers fit 64 bits.
 ghost use mathlib.Core.Path.{_≡_};
+ghost use mathlib.Core.Bool.{cond};
 ghost use Prim.Native.Nat.{_<_};
-ghost use Rattle.lists.specs.Range.{largestTo, padded};
-ghost use Rattle.table.specs.Limits.{most};
-ghost use Rattle.table.specs.Grid.{countIn, subsystemIn};
-ghost use Rattle.rules.specs.Holding.{innerCeiling, workAbove, resourceHolding};
-ghost use Rattle.rules.specs.Held.{accessTo, IsHeld};
+ghost use lib.Dec.{eqb};
+ghost use Rattle.lists.specs.Range.{sumTo};
+ghost use Rattle.table.specs.Grid.{countIn, workIn, subsystemIn};
+ghost use Rattle.rules.specs.Holding.{innerCeiling};
+ghost use Rattle.rules.specs.Held.{HeldUpTo, IsHeld};
 ghost use Rattle.rules.specs.Slots.{Slots, Counted};
 use numbers::larger;
 use numbers::wide;
@@ -39,61 +40,62 @@ pub fn inner_ceiling(block: &[[u32; LINE]; BLOCK], m: usize, l: usize) -> usize
     n - 1
 }
 
-// The work of the tasks above the inner ceiling of resource l.
-pub fn work_above(block: &[[u32; LINE]; BLOCK], m: usize, l: usize) -> u64
-    requires { ⌜ Slots (now block) m l ⌝ }
-    ensures { λ r. ⌜ (r ≡ workAbove (subsystemIn m (now (block .entry))) l) × (r < 34359738368) ⌝ }
+// The work above a resource's inner ceiling, at an access: what stands already where the resource is held, or else all the work
+// before, since this access is the first.
+fn work_above(held: u64, above: u64, before: u64) -> u64
+    ensures { λ r. ⌜ r ≡ cond (eqb held 0) before above ⌝ }
 {
-    let ceiling = inner_ceiling(block, m, l);
-    let mut sum: u64 = 0;
-    let mut j = 0;
-    while j < ceiling {
-        sum += wide(work(block, j));
-        j += 1;
-    }
-    sum
+    if held == 0 { before } else { above }
 }
 
-// The longest access to resource l, 0 where no task accesses it.
-pub fn longest_access(block: &[[u32; LINE]; BLOCK], m: usize, l: usize) -> u64
-    requires { ⌜ Slots (now block) m l ⌝ }
-    ensures { λ r. ⌜ (r ≡ largestTo (accessTo (now (block .entry)) l) (countIn (now (block .entry)))) × (r < 4294967296) ⌝ }
+// Task i joins those before it, whose work is `before`: the longest access with all that can preempt it, of each resource.
+// `former` is X(s) so far. Resources that the task does not access are passed over.
+fn with_task(
+    block: &[[u32; LINE]; BLOCK],
+    m: usize,
+    i: usize,
+    before: u64,
+    each: &mut [u64; Table::MOST],
+    above: &mut [u64; Table::MOST],
+    former: u64,
+) -> u64
+    requires { ⌜ Counted (now block) m ⌝ }
+    requires { ⌜ i < countIn (now block) ⌝ }
+    requires { ⌜ (before ≡ sumTo (workIn (now block)) i) × (before < 34359738368) ⌝ }
+    requires { ⌜ HeldUpTo (now block) m i 0 (now each) (now above) former ⌝ }
+    ensures { λ r. ⌜ HeldUpTo (now (block .entry)) m i m (now (each .exit)) (now (above .exit)) r ⌝ }
 {
-    let n = count(block);
-    let mut longest: u64 = 0;
-    let mut i = 0;
-    while i < n {
-        longest = larger(longest, wide(access(block, i, l)));
-        i += 1;
+    let mut largest = former;
+    let mut l = 0;
+    while l < m {
+        let c = wide(access(block, i, l));
+        if c != 0 {
+            let top = work_above(each[l], above[l], before);
+            let held = top + c;
+            above[l] = top;
+            each[l] = larger(each[l], held);
+            largest = larger(largest, held);
+        }
+        l += 1;
     }
-    longest
+    largest
 }
 
-// X(s, l): the longest access with all that can preempt it; 0 where no task accesses resource l.
-pub fn resource_holding(block: &[[u32; LINE]; BLOCK], m: usize, l: usize) -> u64
-    requires { ⌜ Slots (now block) m l ⌝ }
-    ensures { λ r. ⌜ (r ≡ resourceHolding (subsystemIn m (now (block .entry))) l) × (r < 38654705664) ⌝ }
-{
-    let longest = longest_access(block, m, l);
-    if longest == 0 {
-        return 0;
-    }
-    longest + work_above(block, m, l)
-}
-
-// X(s, l) of each of m resources, and X(s).
+// X(s, l) of each of m resources, and X(s), task by task.
 pub fn held_by(block: &[[u32; LINE]; BLOCK], m: usize) -> Held
     requires { ⌜ Counted (now block) m ⌝ }
     ensures { λ r. ⌜ IsHeld m (subsystemIn m (now (block .entry))) r ⌝ }
 {
+    let n = count(block);
     let mut each = [0u64; Table::MOST];
+    let mut above = [0u64; Table::MOST];
     let mut largest: u64 = 0;
-    let mut l = 0;
-    while l < m {
-        let held = resource_holding(block, m, l);
-        each[l] = held;
-        largest = larger(largest, held);
-        l += 1;
+    let mut before: u64 = 0;
+    let mut i = 0;
+    while i < n {
+        largest = with_task(block, m, i, before, &mut each, &mut above, largest);
+        before += wide(work(block, i));
+        i += 1;
     }
     Held { each, largest }
 }

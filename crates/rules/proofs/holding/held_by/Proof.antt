@@ -1,76 +1,77 @@
--- `rules::holding::held_by` meets its contract. Assumes nothing.
+-- `rules::holding::held_by` meets its contract. The loop's invariant: the first i tasks are joined, and their work is added up.
+-- Assumes nothing.
 use borrow.Author.Needs.{needs}
-use Prim.Native.Nat.{_-_, _≤_, _<_}
+use Prim.Native.Nat.{_*_, _≤_, _-_}
 use native.Mathlib.Omega.{arith}
-use mathlib.Core.Path.{_≡_, sym, ap, _∙_}
-use Rattle.lists.specs.Range.{largestTo, padded}
-use Rattle.lists.proofs.Over.{largestTo-zero}
-use Rattle.lists.proofs.UpTo.{padded-none, padded-turn}
-use Rattle.table.specs.Limits.{most}
-use Rattle.table.specs.Grid.{subsystemIn}
-use Rattle.rules.specs.Holding.{resourceHolding}
-use Rattle.rules.proofs.HoldingLaws.{holding-step, holding-is}
+use mathlib.Core.Path.{_≡_, sym, _∙_}
+use Rattle.lists.specs.Range.{sumTo}
+use Rattle.lists.proofs.Over.{sumTo-zero}
+use Rattle.lists.proofs.Turn.{turn-within, turn-less}
+use Rattle.table.specs.Grid.{countIn, workIn}
+use Rattle.rules.specs.Held.{HeldUpTo}
+use Rattle.rules.proofs.HoldingLaws.{work-turn}
+use Rattle.rules.proofs.TaskwiseLaws.{up-to-none, up-to-next, up-to-all, up-to-largest}
 use Rattle.rules.proofs.holding.held_by.Statement.{statement}
 use Rattle.rules.proofs.holding.held_by.Tie as tie
-use Rattle.rules.proofs.holding.held_by.Reads as reads
-use Rattle.rules.proofs.holding.held_by.Lts as lts
-use Rattle.numbers.proofs.larger.Reads as larger-reads
-use Rattle.rules.proofs.holding.resource_holding.Reads as resource-holding-reads
 
 abbrev Inv-loop : tie.InvT-loop
-Inv-loop block m each₀ largest₀ l₀ each largest l = (l ≤ m) × (each ≡ padded (resourceHolding (subsystemIn m block)) 0 most l) × (largest ≡ largestTo (resourceHolding (subsystemIn m block)) l) × (largest < 38654705664)
+Inv-loop block m n each₀ above₀ largest₀ before₀ i₀ each above largest before i = (n ≡ countIn block) × (i ≤ n) × (before ≡ sumTo (workIn block) i) × (before ≤ i * 4294967296) × HeldUpTo block m i 0 each above largest
 
 abbrev μ-loop : tie.MeasureT-loop
-μ-loop block m each₀ largest₀ l₀ each largest l = m - l
+μ-loop block m n each₀ above₀ largest₀ before₀ i₀ each above largest before i = n - i
 
--- src/holding.rt:92:5
+count-requires : tie.Need-count-requires Inv-loop μ-loop
+count-requires c κs = search needs
+
 loop-holds : tie.Need-loop-holds Inv-loop μ-loop
-loop-holds c = (search needs, sym (padded-none _ 0 most), sym (largestTo-zero _), search needs)
+loop-holds c = (c .count .ensures, omega arith, sym (sumTo-zero (workIn (c .before .args .block .now))), omega arith, up-to-none (c .before .args .block .now) (c .before .args .m))
 
--- src/holding.rt:93:13
-resource-holding-requires : tie.Need-resource-holding-requires Inv-loop μ-loop
-resource-holding-requires c κs = search needs
+with-task-requires : tie.Need-with-task-requires Inv-loop μ-loop
+with-task-requires c κs =
+    let s = c .before .before .before .before .before in
+    let h = c .before .before .before .loop in
+    (s .pre, (omega (arith, h .inv .0, c .before .before .loop-test .taken), ((h .inv .2, omega (arith, h .inv .3, h .inv .0, c .before .before .loop-test .taken, s .pre .tasks-most)), h .inv .4)))
 
--- src/holding.rt:94:9
-mul-each : tie.Need-mul-each Inv-loop μ-loop
-mul-each c = search needs
+work-requires : tie.Need-work-requires Inv-loop μ-loop
+work-requires c κs = search needs
 
--- src/holding.rt:94:9
-array-write-each : tie.Need-array-write-each Inv-loop μ-loop
-array-write-each c = search needs
+wide-requires : tie.Need-wide-requires Inv-loop μ-loop
+wide-requires c κs = search needs
 
--- src/holding.rt:95:9
-larger-requires : tie.Need-larger-requires Inv-loop μ-loop
-larger-requires c κs = search needs
+add-before : tie.Need-add-before Inv-loop μ-loop
+add-before c =
+    let s = c .before .before .before .before .before .before .before .before in
+    let h = c .before .before .before .before .before .before .loop in
+    omega (arith, h .inv .3, h .inv .0, c .before .before .before .before .before .loop-test .taken, s .pre .tasks-most, c .wide .ensures .1)
 
--- src/holding.rt:96:9
-add-l : tie.Need-add-l Inv-loop μ-loop
-add-l c = search needs
+add-i : tie.Need-add-i Inv-loop μ-loop
+add-i c = search needs
 
--- src/holding.rt:92:5
 loop-less : tie.Need-loop-less Inv-loop μ-loop
-loop-less c = search needs
+loop-less c = turn-less _ _ (c .before .before .before .before .before .loop-test .taken)
 
--- src/holding.rt:92:5
 loop-again : tie.Need-loop-again Inv-loop μ-loop
 loop-again c =
-    let k = c .before .before .before in
-    let s = k .before in
-    let u = subsystemIn (s .args .m) (s .args .block .now) in
-    let x = c .before .resource-holding .ensures in
-    (search needs, padded-turn (resourceHolding u) 0 most (k .loop .l) (omega (arith, c .before .before .loop-test .taken, s .pre .resources-most)) (k .loop .each) _ (k .loop .inv .1) (x .0), c .larger .ensures ∙ holding-step u (k .loop .l) (k .loop .largest) _ (k .loop .inv .2) (x .0), omega (arith, c .larger .ensures, k .loop .inv .3, x .1))
+    let a = c .before .before .before .before .before .before .before .before .args in
+    let h = c .before .before .before .before .before .before .loop in
+    let w = c .wide .ensures in (
+      h .inv .0,
+      turn-within _ _ (c .before .before .before .before .before .loop-test .taken),
+      work-turn (a .block .now) (h .i) (h .before) _ (h .inv .2) (w .0 ∙ c .before .work .ensures),
+      omega (arith, h .inv .3, w .1),
+      up-to-next (a .block .now) (a .m) (h .i) _ _ _ (a .m) (omega arith) (c .before .before .with-task .ensures),
+    )
 
--- src/holding.rt:85:1
 returns : tie.Need-returns Inv-loop μ-loop
 returns c =
-    let k = c .before in
-    let s = k .before in
-    let u = subsystemIn (s .args .m) (s .args .block .now) in
-    let all : k .loop .l ≡ s .args .m = omega (arith, c .loop-test .left, k .loop .inv .0) in
+    let s = c .before .before .before in
+    let a = s .args in
+    let h = c .before .loop in
+    let all : h .i ≡ countIn (a .block .now) = omega (arith, h .inv .0, h .inv .1, c .loop-test .left) in
     record {
-      each-is = k .loop .inv .1 ∙ ap (padded (resourceHolding u) 0 most) all;
-      largest-is = k .loop .inv .2 ∙ holding-is (s .args .m) (k .loop .l) u all;
-      largest-fits = k .loop .inv .3;
+      each-is = up-to-all (a .block .now) (a .m) (h .i) (h .each) (h .above) (h .largest) all (s .pre .resources-most) (h .inv .4);
+      largest-is = up-to-largest (a .block .now) (a .m) (h .i) (h .each) (h .above) (h .largest) all (s .pre .resources-most) (h .inv .4);
+      largest-fits = h .inv .4 .largest-fits;
     }
 
 pub held-by-spec : {M : Type 1} → statement M
@@ -79,12 +80,13 @@ held-by-spec =
     (tie.spec
     Inv-loop
     μ-loop
+    count-requires
     loop-holds
-    resource-holding-requires
-    mul-each
-    array-write-each
-    larger-requires
-    add-l
+    with-task-requires
+    work-requires
+    wide-requires
+    add-before
+    add-i
     loop-less
     loop-again
     returns)
