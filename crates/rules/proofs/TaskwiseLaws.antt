@@ -1,6 +1,7 @@
 -- Holding times task by task: what one more task makes of a resource and of the arrays, and that all tasks together make the
 -- holding times. Assumes nothing.
 use Prim.Native.Nat.{ℕ, zero, suc, _+_, _-_, _≤_, _<_, max}
+use native.Mathlib.Nat.{max-eq-left}
 use native.Mathlib.Numerals.{add-one}
 use native.Mathlib.Omega.{arith}
 use native.Mathlib.Decide.{ℕ-discrete}
@@ -10,7 +11,7 @@ use mathlib.Core.List.{List}
 use mathlib.Core.Logic.{_⊎_, inl, inr, ⊎-elim}
 use lib.Dec.{eqb}
 use lib.ListN.{length, getD, set, replicate, length-set, length-replicate, getD-replicate, List·getD-eq-default}
-use lib.Seq.{ext-getD, getD-set-same, getD-set-other, getD-append-add}
+use lib.Seq.{ext-getD, getD-set-same, getD-set-other, getD-append-add, set-getD}
 use borrow.Author.Tests.{eq-eqb, ne-eqb}
 use Rattle.lists.specs.Range.{sumTo, largestTo, upTo, padded}
 use Rattle.lists.proofs.Over.{le-or-lt, largestTo-zero, largestTo-suc, largestTo-ext, below-largest, largest-at-most}
@@ -32,6 +33,13 @@ getD-past f d n size k a b =
     ap (λ (i : ℕ). getD (padded f d size n) i d) e ∙
     getD-append-add (upTo f n) (replicate (size - n) d) (k - n) d ∙
     getD-replicate (size - n) (k - n) d d (omega arith)
+
+-- A slot that is raised by nothing stays, else it has the new value.
+pub raised-not : (xs : List ℕ) (l y : ℕ) → y ≤ slotOf xs l → xs ≡ set xs l (max (slotOf xs l) y)
+raised-not xs l y h = sym (ap (set xs l) (max-eq-left h) ∙ set-getD xs l 0)
+
+pub raised-to : (xs : List ℕ) (l y : ℕ) → slotOf xs l < y → set xs l y ≡ set xs l (max (slotOf xs l) y)
+raised-to xs l y h = ap (set xs l) (omega arith)
 
 -- A slot that is raised raises the largest.
 module _ (xs : List ℕ) (m l x y : ℕ) (room : l < length xs) (listed : l < m) (e : x ≡ max (slotOf xs l) y) where
@@ -166,6 +174,9 @@ module _ (block : List (List ℕ)) (m i : ℕ) where
           largest-is = s .largest-is;
           largest-fits = s .largest-fits;
         }
+
+    pub slot-at-most : slotOf each l ≤ largest
+    slot-at-most = omega (arith, s .largest-is, below-largest (slotOf each) m l listed)
 
     pub work-above-fits : (before top : ℕ) → before < 34359738368 → top ≡ cond (eqb (slotOf each l) 0) before (slotOf above l) → top < 34359738368
     work-above-fits before top fits t =

@@ -2,12 +2,14 @@
 // to have judged by rule 1 (`Slots`); times may be anything, since sums of eight 32-bit numbers fit 64 bits.
 ghost use mathlib.Core.Path.{_≡_};
 ghost use mathlib.Core.Bool.{cond};
-ghost use Prim.Native.Nat.{_<_};
+ghost use Prim.Native.Nat.{_≤_, _<_, max};
 ghost use lib.Dec.{eqb};
+ghost use lib.ListN.{set};
 ghost use Rattle.lists.specs.Range.{sumTo};
+ghost use Rattle.table.specs.Limits.{most};
 ghost use Rattle.table.specs.Grid.{countIn, workIn, subsystemIn};
 ghost use Rattle.rules.specs.Holding.{innerCeiling};
-ghost use Rattle.rules.specs.Held.{HeldUpTo, IsHeld};
+ghost use Rattle.rules.specs.Held.{HeldUpTo, IsHeld, slotOf};
 ghost use Rattle.rules.specs.Slots.{Slots, Counted};
 use numbers::larger;
 use numbers::wide;
@@ -48,6 +50,18 @@ fn work_above(held: u64, above: u64, before: u64) -> u64
     if held == 0 { before } else { above }
 }
 
+// X(s, l) so far, raised to what an access makes it, and X(s) so far. Most accesses raise nothing, and nothing is stored then.
+fn raise(each: &mut [u64; Table::MOST], l: usize, held: u64, former: u64) -> u64
+    requires { ⌜ (l < most) × (slotOf (now each) l ≤ former) ⌝ }
+    ensures { λ r. ⌜ (r ≡ max former held) × (now (each .exit) ≡ set (now (each .entry)) l (max (slotOf (now (each .entry)) l) held)) ⌝ }
+{
+    if held <= each[l] {
+        return former;
+    }
+    each[l] = held;
+    larger(former, held)
+}
+
 // Task i joins those before it, whose work is `before`: the longest access with all that can preempt it, of each resource.
 // `former` is X(s) so far. Resources that the task does not access are passed over.
 fn with_task(
@@ -73,8 +87,7 @@ fn with_task(
             let top = work_above(each[l], above[l], before);
             let held = top + c;
             above[l] = top;
-            each[l] = larger(each[l], held);
-            largest = larger(largest, held);
+            largest = raise(each, l, held, largest);
         }
         l += 1;
     }

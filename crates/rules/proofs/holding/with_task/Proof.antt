@@ -1,12 +1,12 @@
 -- `rules::holding::with_task` meets its contract. The loop's invariant: the first l resources have the task joined. Assumes nothing.
 use borrow.Author.Needs.{needs}
-use Prim.Native.Nat.{_+_, _≤_, _-_}
+use Prim.Native.Nat.{_+_, _≤_, _-_, max}
 use native.Mathlib.Omega.{arith}
 use mathlib.Core.Path.{_≡_, refl, _∙_}
 use mathlib.Core.Logic.{⊎-elim}
 use Rattle.lists.proofs.Turn.{turn-within, turn-less}
-use Rattle.rules.specs.Held.{HeldUpTo}
-use Rattle.rules.proofs.TaskwiseLaws.{up-to-same, up-to-at, up-to-with, up-to-without, work-above-fits}
+use Rattle.rules.specs.Held.{HeldUpTo, slotOf}
+use Rattle.rules.proofs.TaskwiseLaws.{up-to-same, up-to-at, up-to-with, up-to-without, slot-at-most, work-above-fits}
 use Rattle.rules.proofs.holding.with_task.Statement.{statement}
 use Rattle.rules.proofs.holding.with_task.Tie as tie
 
@@ -55,23 +55,14 @@ mul-above c = search needs
 element-write-above : tie.Need-element-write-above Inv-loop μ-loop
 element-write-above c = search needs
 
-mul-larger : tie.Need-mul-larger Inv-loop μ-loop
-mul-larger c = search needs
-
-element-copy-out-larger : tie.Need-element-copy-out-larger Inv-loop μ-loop
-element-copy-out-larger c = search needs
-
-larger-requires : tie.Need-larger-requires Inv-loop μ-loop
-larger-requires c κs = search needs
-
-mul-each : tie.Need-mul-each Inv-loop μ-loop
-mul-each c = search needs
-
-element-write-each : tie.Need-element-write-each Inv-loop μ-loop
-element-write-each c = search needs
-
-larger-requires-2 : tie.Need-larger-requires-2 Inv-loop μ-loop
-larger-requires-2 c κs = search needs
+raise-requires : tie.Need-raise-requires Inv-loop μ-loop
+raise-requires c κs =
+    let s = c .before .before .before .before .before .before .before .before .before in
+    let a = s .args in
+    let h = c .before .before .before .before .before .before .before .before .loop in
+    let w = c .before .before .before .before .before in
+    let listed = w .before .before .loop-test .taken in
+    (omega (arith, listed, s .pre .0 .resources-most), slot-at-most (a .block .now) (a .m) (a .i) (h .each) (h .above) (h .largest) (h .l) (w .wide .result) listed (s .pre .0 .resources-most) (w .wide .ensures .0 ∙ w .before .access .ensures) (h .inv .1))
 
 add-l : tie.Need-add-l Inv-loop μ-loop
 add-l c = search needs
@@ -90,8 +81,8 @@ loop-again c =
       turn-within _ _ listed,
       ⊎-elim
           (λ w.
-          up-to-same (a .block .now) (a .m) (a .i) (h .l + 1) (w .7) (w .8) (w .9)
-          (up-to-with (a .block .now) (a .m) (a .i) (h .each) (h .above) (h .largest) (h .l) (x .result) listed (s .pre .0 .resources-most) access (h .inv .1) (s .pre .1 .0) (omega (arith, w .0 .taken)) (x .ensures .1) (a .before) (w .3 .result) (w .3 .result + x .result) (w .5 .result) (w .6 .result) (s .pre .1 .1 .0 .0) (s .pre .1 .1 .0 .1) (w .3 .ensures) refl (w .5 .ensures) (w .6 .ensures)))
+          up-to-same (a .block .now) (a .m) (a .i) (h .l + 1) (w .6 ∙ w .5 .ensures .1) (w .7) (w .8)
+          (up-to-with (a .block .now) (a .m) (a .i) (h .each) (h .above) (h .largest) (h .l) (x .result) listed (s .pre .0 .resources-most) access (h .inv .1) (s .pre .1 .0) (omega (arith, w .0 .taken)) (x .ensures .1) (a .before) (w .3 .result) (w .3 .result + x .result) (max (slotOf (h .each) (h .l)) (w .3 .result + x .result)) (w .5 .result) (s .pre .1 .1 .0 .0) (s .pre .1 .1 .0 .1) (w .3 .ensures) refl refl (w .5 .ensures .0)))
           (λ w.
           up-to-same (a .block .now) (a .m) (a .i) (h .l + 1) (w .1) (w .2) (w .3)
           (up-to-without (a .block .now) (a .m) (a .i) (h .each) (h .above) (h .largest) (h .l) (x .result) listed (s .pre .0 .resources-most) access (h .inv .1) (omega (arith, w .0 .left))))
@@ -122,12 +113,7 @@ with-task-spec =
     add-held
     mul-above
     element-write-above
-    mul-larger
-    element-copy-out-larger
-    larger-requires
-    mul-each
-    element-write-each
-    larger-requires-2
+    raise-requires
     add-l
     loop-less
     loop-again
