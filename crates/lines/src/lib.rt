@@ -42,13 +42,23 @@ pub fn put_number(buf: &mut [u8], at: usize, n: u32) -> usize
     put_digits(buf, at, n)
 }
 
-// The same for a number of any length: the digits before the last, then the last.
-fn put_digits(buf: &mut [u8], at: usize, x: u32) -> usize
-    requires { ⌜ at + length (decimal x) ≤ length (now buf) ⌝ }
+// The same for a number of two digits.
+fn put_two(buf: &mut [u8], at: usize, x: u32) -> usize
+    requires { ⌜ (10 ≤ x) × (x < 100) × (at + length (decimal x) ≤ length (now buf)) ⌝ }
     ensures { λ r. ⌜ (r ≡ at + length (decimal x)) × (now (buf .exit) ≡ written (now (buf .entry)) at (decimal x)) ⌝ }
 {
-    if x < 10 {
-        return put_byte(buf, at, digit(x));
+    let last = put_byte(buf, at, digit(x / 10));
+    put_byte(buf, last, digit(x % 10))
+}
+
+// The same for a number of two digits or more: the digits before the last, then the last. Two digits are written at once, which
+// spares the innermost call.
+fn put_digits(buf: &mut [u8], at: usize, x: u32) -> usize
+    requires { ⌜ (10 ≤ x) × (at + length (decimal x) ≤ length (now buf)) ⌝ }
+    ensures { λ r. ⌜ (r ≡ at + length (decimal x)) × (now (buf .exit) ≡ written (now (buf .entry)) at (decimal x)) ⌝ }
+{
+    if x < 100 {
+        return put_two(buf, at, x);
     }
     let last = put_digits(buf, at, x / 10);
     put_byte(buf, last, digit(x % 10))
