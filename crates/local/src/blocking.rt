@@ -17,12 +17,16 @@ use table::grid::LINE;
 use table::grid::access;
 use table::grid::count;
 
-// The inner ceilings of the first m resources, and zeros behind them.
+// The inner ceilings of the first m resources, and zeros behind them. Of one task alone there is nothing to look for: every
+// ceiling is at that task.
 pub fn inner_ceilings(block: &[[u32; LINE]; BLOCK], m: usize) -> [usize; Table::MOST]
     requires { ⌜ Counted (now block) m ⌝ }
     ensures { λ r. ⌜ r ≡ padded (innerCeiling (subsystemIn m (now (block .entry)))) 0 most m ⌝ }
 {
     let mut ceilings = [0usize; Table::MOST];
+    if count(block) == 1 {
+        return ceilings;
+    }
     let mut l = 0;
     while l < m {
         ceilings[l] = rules::holding::inner_ceiling(block, m, l);

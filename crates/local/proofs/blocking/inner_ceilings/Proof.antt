@@ -8,11 +8,9 @@ use Rattle.lists.proofs.UpTo.{padded-none, padded-turn}
 use Rattle.table.specs.Limits.{most}
 use Rattle.table.specs.Grid.{subsystemIn}
 use Rattle.rules.specs.Holding.{innerCeiling}
+use Rattle.local.proofs.BlockingLaws.{ceilings-of-one}
 use Rattle.local.proofs.blocking.inner_ceilings.Statement.{statement}
 use Rattle.local.proofs.blocking.inner_ceilings.Tie as tie
-use Rattle.local.proofs.blocking.inner_ceilings.Reads as reads
-use Rattle.local.proofs.blocking.inner_ceilings.Lts as lts
-use Rattle.rules.proofs.holding.inner_ceiling.Reads as inner-ceiling-reads
 
 abbrev Inv-loop : tie.InvT-loop
 Inv-loop block m ceilings₀ l₀ ceilings l = (l ≤ m) × (ceilings ≡ padded (innerCeiling (subsystemIn m block)) 0 most l)
@@ -20,42 +18,42 @@ Inv-loop block m ceilings₀ l₀ ceilings l = (l ≤ m) × (ceilings ≡ padded
 abbrev μ-loop : tie.MeasureT-loop
 μ-loop block m ceilings₀ l₀ ceilings l = m - l
 
--- src/blocking.rt:27:5
+count-requires : tie.Need-count-requires Inv-loop μ-loop
+count-requires c κs = search needs
+
+returns : tie.Need-returns Inv-loop μ-loop
+returns c =
+    let s = c .before .before in
+    ceilings-of-one (s .args .block .now) (s .args .m) _ (c .before .count .ensures) (c .if1 .taken) (s .pre .resources-most)
+
 loop-holds : tie.Need-loop-holds Inv-loop μ-loop
 loop-holds c = (search needs, sym (padded-none _ 0 most))
 
--- src/blocking.rt:28:23
 inner-ceiling-requires : tie.Need-inner-ceiling-requires Inv-loop μ-loop
 inner-ceiling-requires c κs = search needs
 
--- src/blocking.rt:28:9
 mul-ceilings : tie.Need-mul-ceilings Inv-loop μ-loop
 mul-ceilings c = search needs
 
--- src/blocking.rt:28:9
 array-write-ceilings : tie.Need-array-write-ceilings Inv-loop μ-loop
 array-write-ceilings c = search needs
 
--- src/blocking.rt:29:9
 add-l : tie.Need-add-l Inv-loop μ-loop
 add-l c = search needs
 
--- src/blocking.rt:27:5
 loop-less : tie.Need-loop-less Inv-loop μ-loop
 loop-less c = search needs
 
--- src/blocking.rt:27:5
 loop-again : tie.Need-loop-again Inv-loop μ-loop
 loop-again c =
     let k = c .before .before in
-    let s = k .before in
+    let s = k .before .before .before in
     (search needs, padded-turn (innerCeiling (subsystemIn (s .args .m) (s .args .block .now))) 0 most (k .loop .l) (omega (arith, c .before .loop-test .taken, s .pre .resources-most)) (k .loop .ceilings) _ (k .loop .inv .1) (c .inner-ceiling .ensures))
 
--- src/blocking.rt:21:1
-returns : tie.Need-returns Inv-loop μ-loop
-returns c =
+returns-2 : tie.Need-returns-2 Inv-loop μ-loop
+returns-2 c =
     let k = c .before in
-    let s = k .before in
+    let s = k .before .before .before in
     k .loop .inv .1 ∙ ap (padded (innerCeiling (subsystemIn (s .args .m) (s .args .block .now))) 0 most) (omega (arith, c .loop-test .left, k .loop .inv .0))
 
 pub inner-ceilings-spec : {M : Type 1} → statement M
@@ -64,6 +62,8 @@ inner-ceilings-spec =
     (tie.spec
     Inv-loop
     μ-loop
+    count-requires
+    returns
     loop-holds
     inner-ceiling-requires
     mul-ceilings
@@ -71,4 +71,4 @@ inner-ceilings-spec =
     add-l
     loop-less
     loop-again
-    returns)
+    returns-2)
