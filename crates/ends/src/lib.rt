@@ -5,9 +5,9 @@ use global::Common;
 use global::blocking_of;
 use global::interfaces;
 use global::interfaces::WIDTH;
-use least::Least;
 use least::demand_in;
-use least::least_solution;
+use least::ends_at;
+use least::least_after;
 use least::least_within;
 use least::round_up;
 use numbers::wide;
@@ -16,13 +16,14 @@ ghost use mathlib.Core.Path.{_≡_};
 ghost use Prim.Native.Nat.{_<_};
 ghost use Rattle.least.specs.Demand.{total};
 ghost use Rattle.least.specs.Search.{IsLeast};
+ghost use Rattle.least.specs.After.{afterwards};
 ghost use Rattle.global.specs.Interfaces.{interfacesIn};
 ghost use Rattle.global.specs.Blocking.{blocking};
 ghost use Rattle.global.specs.View.{viewOf, held};
 ghost use Rattle.global.specs.Ends.{ahead, budgetEnd, jobEnd};
 ghost use Rattle.global.specs.JobCount.{jobCount};
 ghost use Rattle.global.specs.Common.{commonOf};
-ghost use Rattle.global.specs.Computed.{afterwards, After};
+ghost use Rattle.global.specs.Computed.{Budget-over};
 ghost use Rattle.global.specs.Sound.{Sound, Counted};
 
 // B(s), from what the rows share.
@@ -43,7 +44,8 @@ fn blocking_in(
     blocking_of(lines, n, m, &costs[..n], &ceilings[..m], s)
 }
 
-// The number of jobs in the active period of subsystem s, 0 where none ends within the horizon.
+// The number of jobs in the active period of subsystem s, 0 where none ends within the horizon. The search goes on from the first
+// tick, by which every load has asked once.
 pub fn jobs_of(
     lines: &[[u32; WIDTH]; Table::MOST],
     n: usize,
@@ -58,17 +60,22 @@ pub fn jobs_of(
 {
     let periods = common.periods;
     let costs = common.costs;
-    let blocking = wide(blocking_in(lines, n, m, common, s));
-    let Least::At(active) = least_solution(
+    let blocking = blocking_in(lines, n, m, common, s);
+    let mut ends = [0u32; Table::MOST];
+    ends_at(&periods[..n], s + 1, 1, &mut ends);
+    let once = demand_in(&periods[..n], &costs[..n], s + 1, 1) as u32;
+    let active = least_after(
         &periods[..n],
         &costs[..n],
         s + 1,
-        blocking,
+        &mut ends,
         1,
+        blocking + once - 1,
         Table::HORIZON,
-    ) else {
+    );
+    if Table::HORIZON < active {
         return 0;
-    };
+    }
     round_up(active, periods[s])
 }
 
@@ -109,18 +116,19 @@ pub fn budget_end(
 {
     let periods = common.periods;
     let costs = common.costs;
-    let ahead = ahead_of_job(lines, n, m, common, s, k);
-    least_within(&periods[..n], &costs[..n], s, ahead, 1)
+    let ahead = ahead_of_job(lines, n, m, common, s, k) as u32;
+    let mut ends = [0u32; Table::MOST];
+    least_within(&periods[..n], &costs[..n], s, &mut ends, 0, ahead)
 }
 
 // Where a job ends whose budget has ended at `end`: after `held` ticks more and whatever the first n loads ask for meanwhile.
 fn end_after(periods: &[u32], costs: &[u32], n: usize, end: u32, held: u32) -> u32
-    requires { ⌜ After (now periods) (now costs) n end held ⌝ }
+    requires { ⌜ Budget-over (now periods) (now costs) n end held ⌝ }
     ensures { λ r. ⌜ IsLeast (total (now (periods .entry)) (now (costs .entry)) n (afterwards (now (periods .entry)) (now (costs .entry)) n end held)) r ⌝ }
 {
-    let asked = demand_in(periods, costs, n, end);
-    let constant = wide(end) + wide(held) - asked;
-    least_within(periods, costs, n, constant, end + held)
+    let mut ends = [0u32; Table::MOST];
+    ends_at(periods, n, end, &mut ends);
+    least_within(periods, costs, n, &mut ends, end, held)
 }
 
 // The end of job k with resource l, which subsystem s holds for a time. The search goes on from where the budget ends.

@@ -43,10 +43,10 @@ module _ (v : View) (sv : Sound-view v) where
   period-pos = le-trans (sv .budget-pos) (le-trans (budget-at-most v) (sv .fits))
 
   pub higher-loads : Loads (v .periods) (v .costs) (v .place)
-  higher-loads = loads-fewer (v .place) (sv .loads) (omega arith)
+  higher-loads = loads-fewer (v .place) (sv .fit .loads) (omega arith)
 
   -- B, the higher subsystems, and its own jobs.
-  active-total : (x : ℕ) → activeTotal v x ≡ v .blocking + demand (v .periods) (v .costs) (v .place) x + up x (v .period) * cost v
+  pub active-total : (x : ℕ) → activeTotal v x ≡ v .blocking + demand (v .periods) (v .costs) (v .place) x + up x (v .period) * cost v
   unfolding total
   active-total x =
       let own : up x (getD (v .periods) (v .place) 0) * getD (v .costs) (v .place) 0 ≡ up x (v .period) * cost v = ap₂ (λ (p c : ℕ). up x p * c) (sv .own-period) (sv .own-cost) in
@@ -64,7 +64,7 @@ module _ (v : View) (sv : Sound-view v) where
   module _ {active : ℕ} (is : activePeriod v ≡ some active) where
     active-is-least : IsLeast (activeTotal v) active
     unfolding activePeriod
-    active-is-least = least-strict (v .periods) (v .costs) (v .place + 1) (v .blocking) horizon (sv .loads) active-starts is
+    active-is-least = least-strict (v .periods) (v .costs) (v .place + 1) (v .blocking) horizon (sv .fit .loads) active-starts is
 
     pub active-from : 1 ≤ active
     active-from = active-is-least .from

@@ -1,25 +1,20 @@
--- Laws of the search for a job end from where the budget ended: how far it goes, and the response that it gives. Assumes nothing.
+-- Laws of the search for a job end from where the budget ended: where it ends, and the response that it gives. Assumes nothing.
 use Prim.Native.Nat.{ℕ, _+_, _-_, _≤_, _<_}
 use native.Mathlib.Nat.{sub-add-cancel}
 use native.Mathlib.Omega.{arith}
 use mathlib.Core.List.{List}
 use Rattle.least.specs.Demand.{total}
-use Rattle.least.specs.Search.{IsLeast, reach}
+use Rattle.least.specs.Search.{IsLeast}
+use Rattle.least.specs.After.{afterwards}
 use Rattle.least.proofs.Search.{stands-below}
-use Rattle.global.specs.Computed.{After, Responded, afterwards}
+use Rattle.global.specs.Computed.{Budget-over, Responded}
 
-module _ (periods costs : List ℕ) (n end held : ℕ) (a : After periods costs n end held) where
-  -- It starts within reach.
-  pub after-within : end + held < reach
-  after-within =
-      let d = a .down in
-      omega (arith, stands-below (total periods costs n (afterwards periods costs n end held)) (a .search .stands) (d .from) (d .down), d .within)
-
+module _ (periods costs : List ℕ) (n end held : ℕ) (a : Budget-over periods costs n end held) where
   module _ {z : ℕ} (i : IsLeast (total periods costs n (afterwards periods costs n end held)) z) where
     -- It ends where it starts or later.
     pub after-from : end + held ≤ z
     after-from =
-        stands-below (total periods costs n (afterwards periods costs n end held)) (a .search .stands) (i .from)
+        stands-below (total periods costs n (afterwards periods costs n end held)) (a .waits .stands) (i .from)
         (omega (arith, i .solution))
 
     pub after-responds : (release : ℕ) → 0 < held → release ≤ end → Responded periods costs n end held release (z - release)

@@ -1,6 +1,6 @@
 -- Laws of budget ends (step 9): every job of an active period has one, none is above the active period, each lies after the
--- job's release, the first job's search starts at B + Q, and the next job's where this one ended, and Q + X further on. Where
--- nothing is held the last one is the active period. Assumes nothing.
+-- job's release, a job's search may start at what it waits for besides higher subsystems, and the next job's where this one ended,
+-- and Q + X further on. Assumes nothing.
 use Prim.Native.Nat.{ℕ, suc, _+_, _*_, _≤_, _<_}
 use native.Mathlib.Nat.{mul-le-mul-right, suc-mul, mul-le-mul-left}
 use native.Mathlib.Numerals.{add-one}
@@ -13,16 +13,16 @@ use Rattle.lists.proofs.Over.{le-or-lt}
 use Rattle.least.specs.Up.{up}
 use Rattle.least.specs.Demand.{demand, total}
 use Rattle.least.specs.Least.{least}
-use Rattle.least.specs.Search.{Search, Comes-down, IsLeast}
-use Rattle.least.proofs.Up.{up-mono, up-is-least}
+use Rattle.least.specs.Search.{Stands, Comes-down, IsLeast}
+use Rattle.least.proofs.Up.{up-is-least}
 use Rattle.least.proofs.Demand.{demand-mono}
-use Rattle.least.proofs.Search.{stands-at-one, stands-at-floor, stands-below, least-stands, least-is-one, stands-warm}
+use Rattle.least.proofs.Search.{stands-at-floor, stands-below, least-stands, least-is-one, stands-warm}
 use Rattle.least.proofs.LeastLaws.{least-below}
 use Rattle.table.specs.Limits.{horizon}
 use Rattle.global.specs.Blocking.{numberOr}
-use Rattle.global.specs.View.{View, overrun, cost}
+use Rattle.global.specs.View.{View, cost}
 use Rattle.global.specs.Ends.{jobs, ahead, budgetEnd}
-use Rattle.global.specs.Sound.{Sound-view, Counted, Budget-from}
+use Rattle.global.specs.Sound.{Sound-view, Counted}
 use Rattle.global.proofs.ActiveLaws.{budget-at-most, period-pos, higher-loads, active-from, active-within, active-parts, active-before, released-within}
 
 -- What the budget end of job k is the least solution of.
@@ -39,7 +39,7 @@ module _ (v : View) where
   unfolding ahead
   ahead-holds-budget k = omega arith
 
-  budget-total : (k x : ℕ) → budgetTotal v k x ≡ ahead v k + demand (v .periods) (v .costs) (v .place) x
+  pub budget-total : (k x : ℕ) → budgetTotal v k x ≡ ahead v k + demand (v .periods) (v .costs) (v .place) x
   unfolding total
   budget-total k x = refl
 
@@ -47,16 +47,10 @@ module _ (v : View) (sv : Sound-view v) where
   pub budget-starts : (k : ℕ) → 1 ≤ budgetTotal v k 1
   budget-starts k = omega (arith, sv .budget-pos, ahead-holds-budget v k, budget-total v k 1)
 
-  -- A search may start from 1.
-  pub budget-from-one : (k : ℕ) → Budget-from v k 1
-  unfolding Budget-from
-  budget-from-one k = stands-at-one (budgetTotal v k) (budget-starts k)
-
-  -- That for job 0 may start at B + Q, which is what the job waits for besides higher subsystems.
-  pub first-starts : Budget-from v 0 (v .blocking + v .budget)
-  unfolding Budget-from ahead
-  first-starts =
-      stands-at-floor (budgetTotal v 0) (omega (arith, sv .budget-pos)) (λ y l. omega (arith, budget-total v 0 y))
+  -- A search for F(k) may start at what job k waits for besides higher subsystems.
+  pub budget-floor : (k : ℕ) → Stands (budgetTotal v k) (ahead v k)
+  budget-floor k =
+      stands-at-floor (budgetTotal v k) (omega (arith, sv .budget-pos, ahead-holds-budget v k)) (λ y l. omega (arith, budget-total v k y))
 
   -- What the code computes ahead of job k.
   pub ahead-computed : (k : ℕ) {r : ℕ} → r ≡ v .blocking + k * getD (v .costs) (v .place) 0 + v .budget → r ≡ ahead v k
@@ -105,7 +99,7 @@ module _ (v : View) (sv : Sound-view v) where
     pub budget-end-parts : budgetEnd v k ≡ ahead v k + demand (v .periods) (v .costs) (v .place) (budgetEnd v k)
     budget-end-parts = budget-end-is-least .solution ∙ budget-total v k (budgetEnd v k)
 
-    -- Where a search for it may look.
+    -- Where a search for it may look, and what it finds.
     pub budget-comes-down : Comes-down (budgetTotal v k)
     budget-comes-down =
         record {
@@ -115,25 +109,11 @@ module _ (v : View) (sv : Sound-view v) where
           down = budget-down;
         }
 
-    pub budget-search : (start : ℕ) → Budget-from v k start → Search (v .periods) (v .costs) (v .place) (ahead v k) start
-    unfolding Budget-from
-    budget-search start s =
-        record {
-          loads = higher-loads v sv;
-          constant-small = omega (arith, jobs-fit, budget-at-most v, active-within v sv (ct .is-active));
-          stands = s;
-        }
-
-    -- The same from the number that the code has computed, and what the search finds.
-    pub budget-asked : {a start : ℕ} → a ≡ ahead v k → Budget-from v k start → Search (v .periods) (v .costs) (v .place) a start × Comes-down (total (v .periods) (v .costs) (v .place) a)
-    budget-asked {a} {start} e s = rw e (budget-search start s, budget-comes-down)
-
-    pub budget-found : {a z : ℕ} → a ≡ ahead v k → IsLeast (total (v .periods) (v .costs) (v .place) a) z → z ≡ budgetEnd v k
-    budget-found e i = least-is-one (budgetTotal v k) (rw e at i) budget-end-is-least
+    pub budget-found : {z : ℕ} → IsLeast (budgetTotal v k) z → z ≡ budgetEnd v k
+    budget-found i = least-is-one (budgetTotal v k) i budget-end-is-least
 
     -- The next job's search may start at F(k) + Q + X.
-    pub next-starts : Budget-from v (k + 1) (budgetEnd v k + cost v)
-    unfolding Budget-from
+    pub next-starts : Stands (budgetTotal v (k + 1)) (budgetEnd v k + cost v)
     next-starts =
         stands-warm (budgetTotal v k) (budgetTotal v (k + 1)) (cost v) (least-stands (budgetTotal v k) budget-end-is-least)
         (λ y h. omega (arith, budget-total v k y, budget-total v (k + 1) y, ahead-next v k))
@@ -153,31 +133,6 @@ module _ (v : View) (sv : Sound-view v) where
 
 -- F(k + 1) is at least Q + X after F(k).
 pub budget-end-next : (v : View) → Sound-view v → {k : ℕ} → Counted v k → Counted v (k + 1) → budgetEnd v k + cost v ≤ budgetEnd v (k + 1)
-unfolding Budget-from
 budget-end-next v sv {k} ct next =
     let i = budget-end-is-least v sv next in
     stands-below (budgetTotal v (k + 1)) (next-starts v sv ct) (i .from) (omega (arith, i .solution))
-
--- Where nothing is held, the budget of the last job ends with the active period: both wait for the same.
-module _ (v : View) (sv : Sound-view v) (none-held : overrun v ≡ 0) {k : ℕ} (ct : Counted v k) (last : jobs v (ct .active) ≡ k + 1) where
-  ahead-of-last : ahead v k ≡ v .blocking + jobs v (ct .active) * cost v
-  unfolding ahead cost
-  ahead-of-last = rw last (rw (add-one k) (omega (arith, none-held, suc-mul k (v .budget + overrun v))))
-
-  -- Before the active period's end no more jobs of its own are released than in all of it.
-  before-last : (y : ℕ) → 1 ≤ y → y < ct .active → y < budgetTotal v k y
-  unfolding jobs
-  before-last y l u =
-      let few : up y (v .period) * cost v ≤ up (ct .active) (v .period) * cost v = mul-le-mul-right (cost v) (up-mono (v .period) (period-pos v sv) (omega arith)) in
-      omega (arith, active-before v sv (ct .is-active) y l u, ahead-of-last, budget-total v k y)
-
-  pub last-ends-active : ct .active ≡ budgetEnd v k
-  last-ends-active = least-is-one (budgetTotal v k) active-is-least-too (budget-end-is-least v sv ct)
-    where
-      active-is-least-too : IsLeast (budgetTotal v k) (ct .active)
-      active-is-least-too =
-          record {
-            from = active-from v sv (ct .is-active);
-            solution = omega (arith, active-parts v sv (ct .is-active), ahead-of-last, budget-total v k (ct .active));
-            before = before-last;
-          }

@@ -1,27 +1,30 @@
 -- Laws of one job's ends, as searches over lent loads find them; and which numbers are jobs. Assumes nothing.
-use Prim.Native.Nat.{ℕ, _+_, _<_}
+use Prim.Native.Nat.{ℕ, _+_, _-_, _*_, _^_, _≤_, _<_}
+use native.Mathlib.Nat.{mul-le-mul-right}
 use native.Mathlib.Omega.{arith}
-use mathlib.Core.Path.{_≡_, refl, sym, ap, _∙_}
+use mathlib.Core.Path.{_≡_, refl, sym, ap, ap₂, _∙_}
 use mathlib.Core.List.{List}
 use mathlib.Core.Option.{Option, none, some}
+use lib.ListN.{getD, replicate}
+use Rattle.lists.proofs.Over.{sumTo-at-most}
 use Rattle.least.specs.Up.{up}
-use Rattle.least.specs.Demand.{total}
-use Rattle.least.specs.Least.{least, answered}
-use Rattle.least.specs.Search.{Search, Comes-down, IsLeast}
-use Rattle.least.specs.declared.Least.{Least}
-use Rattle.least.specs.declared.Least.the-variants.{At, Beyond}
-use Rattle.least.proofs.Search.{stands-at-one, least-is-one}
-use Rattle.table.specs.Limits.{horizon}
+use Rattle.least.specs.Demand.{loadIn, demand, total}
+use Rattle.least.specs.Search.{Comes-down, IsLeast}
+use Rattle.least.specs.After.{afterwards, Waits, After, Found}
+use Rattle.least.proofs.Up.{up-at-most}
+use Rattle.least.proofs.Demand.{total-mono}
+use Rattle.least.proofs.Search.{stands-at-one, stands-next, least-is-one}
+use Rattle.table.specs.Limits.{most, horizon}
 use Rattle.global.specs.View.{View, resources, held, ceiling}
 use Rattle.global.specs.Ends.{activePeriod, jobs, ahead, budgetEnd, jobEnd}
 use Rattle.global.specs.JobCount.{jobsIn, jobCount}
-use Rattle.global.specs.Sound.{Sound-view, Counted}
-use Rattle.global.specs.Computed.{afterwards, After}
-use Rattle.global.proofs.ActiveLaws.{activeTotal, active-starts}
-use Rattle.global.proofs.BudgetEndLaws.{budget-from-one, budget-asked, budget-found}
+use Rattle.global.specs.Sound.{Sound-view, Counted, Active}
+use Rattle.global.specs.Computed.{Budget-over}
+use Rattle.global.proofs.ActiveLaws.{budget-at-most, activeTotal, active-starts, active-within}
+use Rattle.global.proofs.BudgetEndLaws.{jobs-fit, budget-comes-down, budget-found}
+use Rattle.global.proofs.WaitLaws.{all-ahead, after-none, active-found}
 use Rattle.global.proofs.JobEndLaws.{jobTotal, jobConstant, constant-by-end, job-end-is-least}
 use Rattle.global.proofs.ResponseLaws.{after-end}
-use Rattle.global.proofs.RowLaws.{active-search, found-active, found-none}
 
 -- The number of jobs, from what the search for the active period has found.
 module _ (v : View) where
@@ -48,27 +51,75 @@ module _ (v : View) where
 
 -- Searches over lists p and c that are the loads which the view has.
 module _ (v : View) (sv : Sound-view v) {p c : List ℕ} (ep : p ≡ v .periods) (ec : c ≡ v .costs) where
-  -- The active period: a search from 1.
-  pub active-lent : {b : ℕ} → b ≡ v .blocking → Search p c (v .place + 1) b 1
-  active-lent e = rw (ep, ec) (active-search v sv e (stands-at-one (activeTotal v) (active-starts v sv)))
+  -- The active period: a search from 1, by which every load has asked once.
+  module _ {b a : ℕ} (eb : b ≡ v .blocking) (ea : a ≡ demand p c (v .place + 1) 1) where
+    abbrev once : ℕ
+    once = demand (v .periods) (v .costs) (v .place + 1) 1
 
-  pub active-at : {b active : ℕ} {r : Least} → b ≡ v .blocking → r ≡ answered (least p c (v .place + 1) b horizon) → r ≡ At active → activePeriod v ≡ some active
-  active-at e q a = found-active v e (rw (ep, ec) at q) a
+    once-pos : 1 ≤ v .blocking + once
+    unfolding total
+    once-pos = active-starts v sv
 
-  pub active-beyond : {b : ℕ} {r : Least} → b ≡ v .blocking → r ≡ answered (least p c (v .place + 1) b horizon) → r ≡ Beyond → activePeriod v ≡ none
-  active-beyond e q a = found-none v e (rw (ep, ec) at q) a
+    once-small : once ≤ (v .place + 1) * 2 ^ 20
+    unfolding demand loadIn
+    once-small =
+        sumTo-at-most (loadIn (v .periods) (v .costs) 1) (v .place + 1) (2 ^ 20)
+        (λ t u.
+        let f = sv .fit .loads in
+        let few : up 1 (getD (v .periods) t 0) * getD (v .costs) t 0 ≤ 1 * getD (v .costs) t 0 = mul-le-mul-right (getD (v .costs) t 0) (up-at-most 1 (getD (v .periods) t 0) (f .period-pos t u)) in
+        omega (arith, few, f .cost-small t u))
+
+    all-once : b + a ≡ v .blocking + once
+    all-once = ap₂ _+_ eb (ea ∙ ap₂ (λ (x y : List ℕ). demand x y (v .place + 1) 1) ep ec)
+
+    is-once : b + a - 1 ≡ v .blocking + once - 1
+    is-once = ap (λ (x : ℕ). x - 1) all-once
+
+    pub once-fits : (1 ≤ b + a) × (b + a < 2 ^ 25)
+    once-fits =
+        let listed : v .place + 1 ≤ 8 = omega (arith, sv .few) in
+        let few : (v .place + 1) * 2 ^ 20 ≤ 8 * 2 ^ 20 = mul-le-mul-right (2 ^ 20) listed in
+        (omega (arith, all-once, once-pos), omega (arith, all-once, once-small, few, sv .blocking-small))
+
+    left : afterwards (v .periods) (v .costs) (v .place + 1) 1 (v .blocking + once - 1) ≡ v .blocking
+    left = omega (arith, once-pos)
+
+    there : 1 + (v .blocking + once - 1) ≡ activeTotal v 1
+    unfolding total
+    there = omega (arith, once-pos)
+
+    pub active-lent : Waits p c (v .place + 1) 1 (b + a - 1)
+    active-lent =
+        rw (ep, ec, is-once)
+        (record {
+          fit = sv .fit;
+          few = omega (arith, sv .few);
+          asked = omega (arith, once-pos);
+          stands =
+              rw (left, there)
+              (stands-next (activeTotal v) (total-mono (v .periods) (v .costs) (v .place + 1) (v .blocking) (sv .fit .loads)) (stands-at-one (activeTotal v) (active-starts v sv)));
+          small = omega (arith, is-once, once-fits .1, once-pos);
+        })
+
+    pub active-at : {after : List ℕ} {r : ℕ} → Found p c after (v .place + 1) (afterwards p c (v .place + 1) 1 (b + a - 1)) horizon r → Active v r
+    active-at {after} {r} f = active-found v sv (rw (ep, ec, is-once, left) at f)
 
   module _ {k : ℕ} (ct : Counted v k) where
-    -- F(k): a search from 1.
-    pub budget-lent : {a : ℕ} → a ≡ ahead v k → Search p c (v .place) a 1 × Comes-down (total p c (v .place) a)
-    budget-lent e = rw (ep, ec) (budget-asked v sv ct e (budget-from-one v sv k))
+    -- F(k): a search from nothing.
+    pub ahead-small : ahead v k < 2 ^ 25
+    ahead-small = omega (arith, jobs-fit v sv ct, budget-at-most v, active-within v sv (ct .is-active))
 
-    pub budget-at : {a z : ℕ} → a ≡ ahead v k → IsLeast (total p c (v .place) a) z → z ≡ budgetEnd v k
-    budget-at e i = budget-found v sv ct e (rw (ep, ec) at i)
+    pub budget-lent : {a : ℕ} → a ≡ ahead v k → After p c (replicate most 0) (v .place) 0 a × Comes-down (total p c (v .place) (afterwards p c (v .place) 0 a))
+    budget-lent {a} e =
+        rw (ep, ec)
+        (after-none v sv k e (omega (arith, ahead-small)), rw (all-ahead v sv a, e) (budget-comes-down v sv ct))
+
+    pub budget-at : {a z : ℕ} → a ≡ ahead v k → IsLeast (total p c (v .place) (afterwards p c (v .place) 0 a)) z → z ≡ budgetEnd v k
+    budget-at {a} {z} e i = budget-found v sv ct (rw (ep, ec, all-ahead v sv a, e) at i)
 
     -- The end with resource l: a search from where the budget ends.
     module _ (l : ℕ) (within : l < resources v) (counts : 0 < held v l) {n end h : ℕ} (en : n ≡ ceiling v l) (ee : end ≡ budgetEnd v k) (eh : h ≡ held v l) where
-      pub after-lent : After p c n end h
+      pub after-lent : Budget-over p c n end h
       after-lent = rw (ep, ec, en, eh) (after-end v sv ct l within ee counts)
 
       pub job-at : {z : ℕ} → IsLeast (total p c n (afterwards p c n end h)) z → z ≡ jobEnd v k l

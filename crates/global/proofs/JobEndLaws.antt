@@ -6,7 +6,7 @@ use mathlib.Core.Path.{_≡_, refl, sym, ap, _∙_}
 use mathlib.Core.Option.{some}
 use Rattle.least.specs.Demand.{demand, demandBetween, total}
 use Rattle.least.specs.Least.{least}
-use Rattle.least.specs.Search.{Loads, Stands, Search, Comes-down, IsLeast}
+use Rattle.least.specs.Search.{Loads, Stands, Comes-down, IsLeast}
 use Rattle.least.proofs.Demand.{demand-mono, demand-split, between-mono, loads-fewer}
 use Rattle.least.proofs.Search.{least-stands, stands-below, stands-warm}
 use Rattle.least.proofs.LeastLaws.{least-below}
@@ -133,14 +133,3 @@ module _ (v : View) (sv : Sound-view v) {k : ℕ} (ct : Counted v k) (l : ℕ) (
         within = omega (arith, active-within v sv (ct .is-active));
         down = job-down;
       }
-
-  pub job-search : Search (v .periods) (v .costs) (ceiling v l) (jobConstant v k l) (budgetEnd v k + held v l)
-  job-search =
-      record {
-        loads = open-loads;
-        constant-small = omega (arith, job-total v k l (ct .active), job-down, active-within v sv (ct .is-active), constant-small-by);
-        stands = job-end-starts;
-      }
-    where
-      constant-small-by : jobConstant v k l ≤ jobTotal v k l (ct .active)
-      constant-small-by = unfold total in omega arith

@@ -246,7 +246,8 @@ module _ (v : View) (sv : Sound-view v) where
   pub led-sound : Sound-view (ledView v)
   led-sound =
       record {
-        loads = sv .loads;
+        few = sv .few;
+        fit = sv .fit;
         own-period = sv .own-period;
         own-cost = sv .own-cost ∙ sym (cost-led v);
         budget-pos = sv .budget-pos;

@@ -6,6 +6,7 @@ pub mod MoreRange
 pub mod BlockingLaws
 pub mod ActiveLaws
 pub mod BudgetEndLaws
+pub mod WaitLaws
 pub mod JobEndLaws
 pub mod ViewLaws
 pub mod AfterLaws

@@ -11,30 +11,39 @@ use borrow.Author.Tests.{lt-ltb, le-ltb}
 use Rattle.lists.specs.Range.{largestTo}
 use Rattle.lists.proofs.Over.{le-or-lt}
 use Rattle.least.specs.Search.{IsLeast}
+use Rattle.least.specs.After.{afterwards}
+use Rattle.least.proofs.ClimbLaws.{fit-fewer}
 use Rattle.least.proofs.Search.{least-is-one}
 use Rattle.global.specs.View.{View, resources, held, ceiling, overrun, cost}
 use Rattle.global.specs.Ends.{budgetEnd}
 use Rattle.global.specs.Response.{firstAt, responseWith, jobResponse, jobResource}
 use Rattle.global.specs.Sound.{Sound-view, Counted}
-use Rattle.global.specs.Computed.{afterwards, After, Responded, bestOf, jobOf}
+use Rattle.global.specs.Computed.{Budget-over, Responded, bestOf, jobOf}
 use Rattle.global.specs.declared.responses.Best.{Best}
 use Rattle.global.proofs.MoreRange.{firstAt-within}
+use Rattle.global.proofs.ActiveLaws.{active-within}
 use Rattle.global.proofs.BudgetEndLaws.{budget-end-is-least}
-use Rattle.global.proofs.JobEndLaws.{jobConstant, jobTotal, constant-by-end, job-search, job-comes-down, job-end-is-least}
+use Rattle.global.proofs.JobEndLaws.{jobConstant, jobTotal, constant-by-end, job-end-starts, job-end-from, job-end-within, job-comes-down, job-end-is-least}
 
 module _ (v : View) (sv : Sound-view v) {k : ℕ} (ct : Counted v k) (l : ℕ) (within : l < resources v) where
   afterwards-is : 0 < held v l → afterwards (v .periods) (v .costs) (ceiling v l) (budgetEnd v k) (held v l) ≡ jobConstant v k l
   afterwards-is u = omega (arith, constant-by-end v sv ct l within u)
 
   -- A search for the job end may go on from F(k) + X(s, l).
-  pub after-end : {end : ℕ} → end ≡ budgetEnd v k → 0 < held v l → After (v .periods) (v .costs) (ceiling v l) end (held v l)
+  pub after-end : {end : ℕ} → end ≡ budgetEnd v k → 0 < held v l → Budget-over (v .periods) (v .costs) (ceiling v l) end (held v l)
   after-end q u =
       let e = afterwards-is u in
       rw q
       (record {
         from = budget-end-is-least v sv ct .from;
-        asked = omega (arith, constant-by-end v sv ct l within u);
-        search = rw e (job-search v sv ct l within u);
+        waits =
+            record {
+              fit = fit-fewer (ceiling v l) (sv .fit) (omega (arith, sv .ceiling-reaches l within u));
+              few = omega (arith, sv .few, sv .ceiling-reaches l within u);
+              asked = omega (arith, constant-by-end v sv ct l within u);
+              stands = rw e (job-end-starts v sv ct l within u);
+              small = omega (arith, job-end-from v sv ct l within u, job-end-within v sv ct l within u, active-within v sv (ct .is-active));
+            };
         down = rw e (job-comes-down v sv ct l within u);
       })
 

@@ -1,28 +1,26 @@
 -- Laws of the jobs whose end need not be looked for: a job ends Q before the next one's budget does, or earlier, so where that
--- leaves no room for a larger response than the worst so far, the worst so far stays; and an only job that holds nothing ends
--- with the active period. Assumes nothing.
+-- leaves no room for a larger response than the worst so far, the worst so far stays. Assumes nothing.
 use Prim.Native.Nat.{ℕ, zero, suc, _+_, _-_, _*_, _≤_, _<_}
 use native.Mathlib.Omega.{arith}
 use native.Mathlib.Numerals.{add-one}
 use mathlib.Core.Path.{_≡_, refl, sym, ap, _∙_}
 use mathlib.Core.Bool.{Bool, true, false, cond}
 use mathlib.Core.Logic.{⊎-elim}
-use mathlib.Core.Option.{some}
 use borrow.Author.Tests.{lt-ltb, le-ltb, ltb-false}
 use lib.Dec.{ltb}
 use Rattle.lists.specs.Range.{largestTo}
 use Rattle.lists.proofs.Over.{le-or-lt, largestTo-zero, below-largest, largest-at-most, largest-reached}
 use Rattle.global.specs.View.{View, resources, held, overrun, cost}
-use Rattle.global.specs.Ends.{activePeriod, jobs, budgetEnd, jobEnd}
+use Rattle.global.specs.Ends.{budgetEnd, jobEnd}
 use Rattle.global.specs.Response.{responseWith, jobResponse, response}
 use Rattle.global.specs.Sound.{Sound-view, Counted}
 use Rattle.global.specs.Computed.{jobOf, worstOf}
 use Rattle.global.specs.declared.responses.Job.{Job}
 use Rattle.global.specs.declared.responses.Worst.{Worst}
 use Rattle.global.proofs.ActiveLaws.{budget-at-most}
-use Rattle.global.proofs.BudgetEndLaws.{budget-end-next, released-before-end, last-ends-active}
+use Rattle.global.proofs.BudgetEndLaws.{budget-end-next, released-before-end}
 use Rattle.global.proofs.JobEndLaws.{job-end-before-next, released-before-job-end}
-use Rattle.global.proofs.ResponseLaws.{response-without, response-with, job-without}
+use Rattle.global.proofs.ResponseLaws.{response-without, response-with}
 use Rattle.global.proofs.BestLaws.{worst-first, worst-step, worst-stays}
 
 -- The response with a resource that is held, and with one that is not.
@@ -137,23 +135,3 @@ passed-over v sv k ct after w next e f h =
         let none : k ≡ 0 = omega arith in
         let zero-response : w .response ≡ 0 = h .0 ∙ ap (largestTo (jobResponse v)) none ∙ largestTo-zero (jobResponse v) in
         omega (arith, response-above-zero v sv ct)
-
--- An only job that holds nothing has the whole active period for its response.
-abbrev pub onlyJob : ℕ → Worst
-onlyJob active = record { response = active; job = 0; resource = 0 }
-
-pub only-job :
-    (v : View) → Sound-view v → overrun v ≡ 0 → {n active : ℕ} → activePeriod v ≡ some active → n ≡ jobs v active → n ≡ 1 →
-    onlyJob active ≡ worstOf v n
-only-job v sv none-held {n} {active} is all one =
-    worst-of-all v 0 n (onlyJob active) (sym one)
-    (worst-to-judged v 0 (response-above-zero v sv first) (onlyJob 0) (worst-to-none v) (job-without v 0 ends none-held) judged)
-  where
-    first : Counted v 0
-    first = record { active = active; is-active = is; among = omega (arith, all, one) }
-
-    ends : active ≡ budgetEnd v 0
-    ends = last-ends-active v sv none-held first (sym all ∙ one)
-
-    judged : onlyJob active ≡ cond (ltb 0 (active - 0 * v .period)) (onlyJob (active - 0 * v .period)) (onlyJob 0)
-    judged = rw (lt-ltb 0 (active - 0 * v .period) (omega (arith, released-before-end v sv first, ends))) (ap onlyJob (omega arith))

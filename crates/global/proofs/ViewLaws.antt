@@ -6,6 +6,7 @@ use Rattle.lists.specs.Range.{largestTo}
 use Rattle.lists.proofs.Over.{largestTo-ext, largest-at-most}
 use Rattle.lists.proofs.UpTo.{length-upTo, getD-upTo}
 use Rattle.least.specs.Search.{Loads}
+use Rattle.least.specs.After.{Fit}
 use Rattle.table.specs.Limits.{most, largest}
 use Rattle.global.specs.Interfaces.{InterfacesM}
 use Rattle.global.specs.Parts.{count, periodOf, budgetOf, holdingOf, holding, costOf, periods, costs}
@@ -73,11 +74,26 @@ module _ (g : InterfacesM) (sound : Sound g) where
               (omega (arith, cost-at-most t (omega arith), sound .period-small t (omega arith)));
         }
 
+    fit-seen : Fit (periods g) (costs g) (s + 1)
+    unfolding periods costs
+    fit-seen =
+        record {
+          loads = loads-seen;
+          cost-pos = λ t u. rw (getD-upTo (costOf g) (count g) t 0 (omega arith)) (cost-pos t (omega arith));
+          cost-fits =
+              λ t u.
+              rw (getD-upTo (costOf g) (count g) t 0 (omega arith), getD-upTo (periodOf g) (count g) t 0 (omega arith))
+              (cost-at-most t (omega arith));
+          period-small =
+              λ t u. rw (getD-upTo (periodOf g) (count g) t 0 (omega arith)) (omega (arith, sound .period-small t (omega arith)));
+        }
+
     pub view-sound : Sound-view (viewOf g s)
     unfolding viewOf periods costs
     view-sound =
         record {
-          loads = loads-seen;
+          few = omega (arith, sound .few-subsystems);
+          fit = fit-seen;
           own-period = getD-upTo (periodOf g) (count g) s 0 h;
           own-cost = getD-upTo (costOf g) (count g) s 0 h ∙ sym (cost-seen g s);
           budget-pos = sound .budget-pos s h;

@@ -1,11 +1,12 @@
 -- What the code's own structs hold, in the words of steps 9 to 11: the view that slices and numbers make up, the best of a
 -- range, a job, and the worst of the jobs. Assumes nothing.
-use Prim.Native.Nat.{ℕ, _+_, _-_, _≤_, _<_}
+use Prim.Native.Nat.{ℕ, _+_, _≤_, _<_}
 use mathlib.Core.Path.{_≡_}
 use mathlib.Core.List.{List}
 use Rattle.lists.specs.Range.{largestTo}
-use Rattle.least.specs.Demand.{demand, total}
-use Rattle.least.specs.Search.{Search, Comes-down, IsLeast}
+use Rattle.least.specs.Demand.{total}
+use Rattle.least.specs.Search.{Comes-down, IsLeast}
+use Rattle.least.specs.After.{afterwards, Waits}
 use Rattle.global.specs.declared.responses.Own.{Own}
 use Rattle.global.specs.declared.responses.Best.{Best}
 use Rattle.global.specs.declared.responses.Job.{Job}
@@ -39,16 +40,11 @@ jobOf v k = record { end = budgetEnd v k; response = jobResponse v k; resource =
 unfoldable pub worstOf : View → ℕ → Worst
 worstOf v n = record { response = response v n; job = worstJob v n; resource = jobResource v (worstJob v n) }
 
--- Once a budget has ended at `end`, what goes on besides the first n loads: `held` ticks more, and what is left of `end`
--- without what these loads have asked for by then.
-abbrev pub afterwards : List ℕ → List ℕ → ℕ → ℕ → ℕ → ℕ
-afterwards periods costs n end held = end + held - demand periods costs n end
-
--- What the search for a job end from end + held rests on.
-pub record After (periods costs : List ℕ) (n end held : ℕ) : Type 0 where
+-- What the search for a job end rests on once a budget has ended at `end`: `held` ticks more are waited for, besides the first n
+-- loads, and there is an end within reach.
+pub record Budget-over (periods costs : List ℕ) (n end held : ℕ) : Type 0 where
   pub from : 1 ≤ end
-  pub asked : demand periods costs n end ≤ end + held
-  pub search : Search periods costs n (afterwards periods costs n end held) (end + held)
+  pub waits : Waits periods costs n end held
   pub down : Comes-down (total periods costs n (afterwards periods costs n end held))
 
 -- r is the response where something is held, counted from the release, and 0 else.

@@ -2,11 +2,13 @@
 -- Assumes nothing.
 use Prim.Native.Nat.{ℕ, _+_, _^_, _≤_, _<_}
 use mathlib.Core.Path.{_≡_}
-use mathlib.Core.Option.{some}
+use mathlib.Core.List.{List}
+use mathlib.Core.Option.{none, some}
 use lib.ListN.{length, getD}
 use Rattle.least.specs.Demand.{total}
-use Rattle.least.specs.Search.{Loads, Stands}
-use Rattle.table.specs.Limits.{most, largest}
+use Rattle.least.specs.Search.{IsLeast}
+use Rattle.least.specs.After.{Fit, EndsAt}
+use Rattle.table.specs.Limits.{most, largest, horizon}
 use Rattle.global.specs.Interfaces.{InterfacesM}
 use Rattle.global.specs.Parts.{count, periodOf, budgetOf, holding}
 use Rattle.global.specs.View.{View, resources, held, ceiling, cost}
@@ -23,7 +25,8 @@ pub record Sound (g : InterfacesM) : Type 0 where
 
 -- The same for the view of one subsystem.
 pub record Sound-view (v : View) : Type 0 where
-  pub loads : Loads (v .periods) (v .costs) (v .place + 1)
+  pub few : v .place < most
+  pub fit : Fit (v .periods) (v .costs) (v .place + 1)
   pub own-period : getD (v .periods) (v .place) 0 ≡ v .period
   pub own-cost : getD (v .costs) (v .place) 0 ≡ cost v
   pub budget-pos : 1 ≤ v .budget
@@ -46,6 +49,14 @@ pub record Jobs (v : View) (n : ℕ) : Type 0 where
   pub is-active : activePeriod v ≡ some active
   pub all : n ≡ jobs v active
 
--- The search for the budget end of job k may stand at `start`.
-unfoldable pub Budget-from : View → ℕ → ℕ → Type 0
-Budget-from v k start = Stands (total (v .periods) (v .costs) (v .place) (ahead v k)) start
+-- `first` is the first budget end, within the horizon, with the ends of the higher subsystems' periods begun by then.
+pub record First-end (v : View) (ends : List ℕ) (first : ℕ) : Type 0 where
+  pub is-least : IsLeast (total (v .periods) (v .costs) (v .place) (ahead v 0)) first
+  pub within : first ≤ horizon
+  pub with-end : most ≤ length ends
+  pub ends-at : EndsAt (v .periods) ends (v .place) first
+
+-- r is the active period where it is at most the horizon; else there is none.
+pub record Active (v : View) (r : ℕ) : Type 0 where
+  pub at : r ≤ horizon → activePeriod v ≡ some r
+  pub beyond : horizon < r → activePeriod v ≡ none

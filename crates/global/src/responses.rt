@@ -1,7 +1,8 @@
 // Budget ends, job ends and responses of one subsystem, over every job of its active period.
-use least::demand_in;
+use least::ends_at;
 use least::least_within;
 use numbers::wide;
+use table::Table;
 ghost use mathlib.Core.Path.{_≡_};
 ghost use mathlib.Core.Bool.{cond};
 ghost use Prim.Native.Nat.{_+_, _-_, _*_, _^_, _≤_, _<_};
@@ -9,8 +10,8 @@ ghost use lib.Dec.{ltb};
 ghost use lib.ListN.{length};
 ghost use Rattle.global.specs.Response.{responseWith};
 ghost use Rattle.global.specs.Ends.{budgetEnd};
-ghost use Rattle.global.specs.Computed.{seenBy, Responded, After, bestOf, jobOf, worstOf};
-ghost use Rattle.global.specs.Sound.{Sound-view, Counted, Jobs, Budget-from};
+ghost use Rattle.global.specs.Computed.{seenBy, Responded, Budget-over, bestOf, jobOf, worstOf};
+ghost use Rattle.global.specs.Sound.{Sound-view, Counted, Jobs, First-end};
 
 // What a subsystem knows of itself: s, P(s), Q(s) and B(s).
 pub struct Own {
@@ -69,16 +70,16 @@ fn worse(worst: Worst, job: Job, k: u32) -> Worst
 // The response with one resource of a job that is released at `release` and whose budget ends at `end`: the job ends after
 // `held` ticks more and whatever the first n loads ask for meanwhile. 0 where nothing is held.
 fn response_with(periods: &[u32], costs: &[u32], n: usize, end: u32, held: u32, release: u32) -> u32
-    requires { ⌜ (0 < held → After (now periods) (now costs) n end held) ⌝ }
+    requires { ⌜ (0 < held → Budget-over (now periods) (now costs) n end held) ⌝ }
     requires { ⌜ release ≤ end ⌝ }
     ensures { λ r. ⌜ Responded (now (periods .entry)) (now (costs .entry)) n end held release r ⌝ }
 {
     if held == 0 {
         return 0;
     }
-    let asked = demand_in(periods, costs, n, end);
-    let constant = wide(end) + wide(held) - asked;
-    least_within(periods, costs, n, constant, end + held) - release
+    let mut ends = [0u32; Table::MOST];
+    ends_at(periods, n, end, &mut ends);
+    least_within(periods, costs, n, &mut ends, end, held) - release
 }
 
 // The largest response of job k, whose budget ends at `end`, over the resources, and the lowest of these that has it.
@@ -138,34 +139,6 @@ fn job_response(
     }
 }
 
-// B + k × (Q + X) + Q, with `cost` for Q + X.
-fn ahead_of(own: Own, cost: u32, k: u32) -> u64
-    requires { ⌜ k * cost < 2 ^ 32 ⌝ }
-    ensures { λ r. ⌜ r ≡ own .blocking + k * cost + own .budget ⌝ }
-{
-    wide(own.blocking) + wide(k * cost) + wide(own.budget)
-}
-
-// F(k), searched from a start at which the search may stand.
-fn end_of_budget(
-    periods: &[u32],
-    costs: &[u32],
-    holdings: &[u32],
-    ceilings: &[usize],
-    own: Own,
-    k: u32,
-    start: u32,
-) -> u32
-    requires { ⌜ Sound-view (seenBy (now periods) (now costs) (now holdings) (now ceilings) own) ⌝ }
-    requires { ⌜ Counted (seenBy (now periods) (now costs) (now holdings) (now ceilings) own) k ⌝ }
-    requires { ⌜ Budget-from (seenBy (now periods) (now costs) (now holdings) (now ceilings) own) k start ⌝ }
-    ensures { λ r. ⌜ r ≡ budgetEnd (seenBy (now (periods .entry)) (now (costs .entry)) (now (holdings .entry)) (now (ceilings .entry)) own) k ⌝ }
-{
-    let s = own.place;
-    let ahead = ahead_of(own, costs[s], k);
-    least_within(periods, costs, s, ahead, start)
-}
-
 // Whether job k, whose end is not known, may respond later than the worst so far. It ends Q ticks before F(k + 1), which is
 // `next`, or earlier.
 fn may_be_worse(own: Own, worst: Worst, k: u32, next: u32) -> bool
@@ -176,8 +149,8 @@ fn may_be_worse(own: Own, worst: Worst, k: u32, next: u32) -> bool
 }
 
 // The largest response over the n jobs of the active period, the first job that has it, and that job's lowest resource. The
-// first budget end is searched from B + Q, which job 0 waits for at least; each other from where the last one was found, and
-// Q + X further on. A job's own end is looked for only where the next budget end leaves room for a larger response.
+// first budget end is known; each other is searched from where the last one was found, with Q + X more to wait for. A job's own
+// end is looked for only where the next budget end leaves room for a larger response.
 pub(crate) fn largest_response(
     periods: &[u32],
     costs: &[u32],
@@ -185,9 +158,12 @@ pub(crate) fn largest_response(
     ceilings: &[usize],
     own: Own,
     n: u32,
+    first: u32,
+    ends: [u32; Table::MOST],
 ) -> Worst
     requires { ⌜ Sound-view (seenBy (now periods) (now costs) (now holdings) (now ceilings) own) ⌝ }
     requires { ⌜ Jobs (seenBy (now periods) (now costs) (now holdings) (now ceilings) own) n ⌝ }
+    requires { ⌜ First-end (seenBy (now periods) (now costs) (now holdings) (now ceilings) own) ends first ⌝ }
     ensures { λ r. ⌜ r ≡ worstOf (seenBy (now (periods .entry)) (now (costs .entry)) (now (holdings .entry)) (now (ceilings .entry)) own) n ⌝ }
 {
     let s = own.place;
@@ -197,11 +173,11 @@ pub(crate) fn largest_response(
         job: 0,
         resource: 0,
     };
-    let first = own.blocking + own.budget;
-    let mut end = end_of_budget(periods, costs, holdings, ceilings, own, 0, first);
+    let mut reached = ends;
+    let mut end = first;
     let mut k: u32 = 0;
     while k + 1 < n {
-        let next = end_of_budget(periods, costs, holdings, ceilings, own, k + 1, end + cost);
+        let next = least_within(periods, costs, s, &mut reached, end, cost);
         if may_be_worse(own, worst, k, next) {
             let job = job_response(periods, costs, holdings, ceilings, own, k, end);
             worst = worse(worst, job, k);

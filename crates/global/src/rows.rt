@@ -8,22 +8,21 @@ use crate::interfaces::budget;
 use crate::interfaces::period;
 use crate::leading::leading;
 use crate::responses::Own;
-use crate::responses::Worst;
 use crate::responses::largest_response;
-use least::Least;
-use least::least_solution;
+use least::fitting;
+use least::least_after;
 use least::round_up;
-use numbers::wide;
 use table::Table;
 ghost use mathlib.Core.Path.{_≡_};
 ghost use mathlib.Core.Option.{some};
-ghost use Prim.Native.Nat.{_<_};
+ghost use Prim.Native.Nat.{_-_, _≤_, _<_};
 ghost use Rattle.global.specs.Interfaces.{interfacesIn};
-ghost use Rattle.global.specs.Ends.{activePeriod, jobs};
+ghost use Rattle.global.specs.declared.Outcome.the-variants.{None};
+ghost use Rattle.global.specs.Ends.{activePeriod};
 ghost use Rattle.global.specs.Row.{judged, rowFor, rowOf};
 ghost use Rattle.global.specs.Common.{commonOf};
-ghost use Rattle.global.specs.Computed.{seenBy, worstOf};
-ghost use Rattle.global.specs.Sound.{Sound, Sound-view};
+ghost use Rattle.global.specs.Computed.{seenBy};
+ghost use Rattle.global.specs.Sound.{Sound, Sound-view, First-end, Active};
 
 // A row fits where its response is within the period, else it is late.
 fn judge(period: u32, response: u32) -> Outcome
@@ -36,34 +35,6 @@ fn judge(period: u32, response: u32) -> Outcome
     }
 }
 
-// The largest response over the n jobs of an active period. The only job of one ends with it where nothing is held.
-fn worst_within(
-    periods: &[u32],
-    costs: &[u32],
-    holdings: &[u32],
-    ceilings: &[usize],
-    own: Own,
-    n: u32,
-    active: u32,
-) -> Worst
-    requires { ⌜ Sound-view (seenBy (now periods) (now costs) (now holdings) (now ceilings) own) ⌝ }
-    requires { ⌜ activePeriod (seenBy (now periods) (now costs) (now holdings) (now ceilings) own) ≡ some active ⌝ }
-    requires { ⌜ n ≡ jobs (seenBy (now periods) (now costs) (now holdings) (now ceilings) own) active ⌝ }
-    ensures { λ r. ⌜ r ≡ worstOf (seenBy (now (periods .entry)) (now (costs .entry)) (now (holdings .entry)) (now (ceilings .entry)) own) n ⌝ }
-{
-    let s = own.place;
-    if n == 1 {
-        if costs[s] == own.budget {
-            return Worst {
-                response: active,
-                job: 0,
-                resource: 0,
-            };
-        }
-    }
-    largest_response(periods, costs, holdings, ceilings, own, n)
-}
-
 // The row with an active period.
 fn active_row(
     periods: &[u32],
@@ -73,14 +44,17 @@ fn active_row(
     own: Own,
     failing: u32,
     active: u32,
+    first: u32,
+    ends: [u32; Table::MOST],
 ) -> Row
     requires { ⌜ Sound-view (seenBy (now periods) (now costs) (now holdings) (now ceilings) own) ⌝ }
     requires { ⌜ activePeriod (seenBy (now periods) (now costs) (now holdings) (now ceilings) own) ≡ some active ⌝ }
+    requires { ⌜ First-end (seenBy (now periods) (now costs) (now holdings) (now ceilings) own) ends first ⌝ }
     ensures { λ r. ⌜ r ≡ rowFor (seenBy (now (periods .entry)) (now (costs .entry)) (now (holdings .entry)) (now (ceilings .entry)) own) failing (some active) ⌝ }
 {
     let s = own.place;
     let n = round_up(active, own.period);
-    let worst = worst_within(periods, costs, holdings, ceilings, own, n, active);
+    let worst = largest_response(periods, costs, holdings, ceilings, own, n, first, ends);
     Row {
         holding: costs[s] - own.budget,
         failing,
@@ -93,8 +67,56 @@ fn active_row(
     }
 }
 
-// The row from what the subsystem has before it. The active period is searched from B + Q + X: blocking and one job are in
-// every active period. Without one at or below the horizon, X and B stand and the rest is 0.
+// The row without an active period: X and B stand and the rest is 0.
+fn row_without(own: Own, cost: u32, failing: u32) -> Row
+    requires { ⌜ own .budget ≤ cost ⌝ }
+    ensures { λ r. ⌜ r ≡ record { holding = cost - own .budget; failing = failing; blocking = own .blocking; active = 0; jobs = 0; job = 0; resource = 0; outcome = None } ⌝ }
+{
+    Row {
+        holding: cost - own.budget,
+        failing,
+        blocking: own.blocking,
+        active: 0,
+        jobs: 0,
+        job: 0,
+        resource: 0,
+        outcome: Outcome::None,
+    }
+}
+
+// The active period, where it is at most the horizon; else something above it. The search goes on from the first budget end: by
+// then what blocks and the higher subsystems' periods are waited for in any case, and so are the subsystem's own that have begun.
+fn active_from(
+    periods: &[u32],
+    costs: &[u32],
+    holdings: &[u32],
+    ceilings: &[usize],
+    own: Own,
+    first: u32,
+    ends: [u32; Table::MOST],
+) -> u32
+    requires { ⌜ Sound-view (seenBy (now periods) (now costs) (now holdings) (now ceilings) own) ⌝ }
+    requires { ⌜ First-end (seenBy (now periods) (now costs) (now holdings) (now ceilings) own) ends first ⌝ }
+    ensures { λ r. ⌜ Active (seenBy (now (periods .entry)) (now (costs .entry)) (now (holdings .entry)) (now (ceilings .entry)) own) r ⌝ }
+{
+    let s = own.place;
+    let begun = round_up(first, own.period);
+    let mut reached = ends;
+    reached[s] = begun * own.period;
+    let more = begun * costs[s] - own.budget;
+    least_after(
+        periods,
+        costs,
+        s + 1,
+        &mut reached,
+        first,
+        more,
+        Table::HORIZON,
+    )
+}
+
+// The row from what the subsystem has before it. Loads that ask for more than every tick has leave no active period, and nothing
+// is searched for; else the first budget end is, and the active period from there.
 fn row_seen(
     periods: &[u32],
     costs: &[u32],
@@ -108,26 +130,30 @@ fn row_seen(
 {
     let s = own.place;
     let cost = costs[s];
-    let Least::At(active) = least_solution(
+    if fitting(periods, costs, s + 1) <= s {
+        return row_without(own, cost, failing);
+    }
+    let mut ends = [0u32; Table::MOST];
+    let ahead = own.blocking + own.budget;
+    let first = least_after(periods, costs, s, &mut ends, 0, ahead, Table::HORIZON);
+    if Table::HORIZON < first {
+        return row_without(own, cost, failing);
+    }
+    let active = active_from(periods, costs, holdings, ceilings, own, first, ends);
+    if Table::HORIZON < active {
+        return row_without(own, cost, failing);
+    }
+    active_row(
         periods,
         costs,
-        s + 1,
-        wide(own.blocking),
-        own.blocking + cost,
-        Table::HORIZON,
-    ) else {
-        return Row {
-            holding: cost - own.budget,
-            failing,
-            blocking: own.blocking,
-            active: 0,
-            jobs: 0,
-            job: 0,
-            resource: 0,
-            outcome: Outcome::None,
-        };
-    };
-    active_row(periods, costs, holdings, ceilings, own, failing, active)
+        holdings,
+        ceilings,
+        own,
+        failing,
+        active,
+        first,
+        ends,
+    )
 }
 
 // The row of subsystem s, with the number of its first failing task, 0 for none. `common` is what all rows share.

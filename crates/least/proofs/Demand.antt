@@ -13,7 +13,7 @@ use Rattle.lists.proofs.Over.{sumTo-zero, sumTo-suc, sumTo-mono, sumTo-at-most}
 use Rattle.least.specs.Up.{up}
 use Rattle.least.specs.Demand.{loadIn, demand, demandBetween, total}
 use Rattle.least.specs.Search.{Loads, reach}
-use Rattle.least.proofs.Up.{up-mono, up-at-most}
+use Rattle.least.proofs.Up.{up-mono, up-zero, up-at-most}
 
 -- Up(x, period) × cost is below 2 ^ 44 within reach.
 pub load-below : (x p c : ℕ) → 1 ≤ p → c < 2 ^ 20 → x < reach → up x p * c < 2 ^ 44
@@ -46,6 +46,13 @@ module _ (periods costs : List ℕ) where
   pub demand-zero : (x : ℕ) → demand periods costs 0 x ≡ 0
   unfolding demand
   demand-zero x = sumTo-zero (loadIn periods costs x)
+
+  -- In no time nothing is asked for.
+  pub demand-at-none : (n : ℕ) → Loads periods costs n → demand periods costs n 0 ≡ 0
+  unfolding demand loadIn
+  demand-at-none n l =
+      let each : (t : ℕ) → t < n → loadIn periods costs 0 t ≤ 0 = λ t u. rw (up-zero (getD periods t 0) (l .period-pos t u)) (omega arith) in
+      omega (arith, sumTo-at-most (loadIn periods costs 0) n 0 each)
 
   -- One load more adds what it asks for.
   pub demand-suc : (n x : ℕ) → demand periods costs (n + 1) x ≡ demand periods costs n x + up x (getD periods n 0) * getD costs n 0

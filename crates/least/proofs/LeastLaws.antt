@@ -53,6 +53,13 @@ module _ (periods costs : List ℕ) (n constant bound : ℕ) where
         before = λ y l u. ne-eqb _ _ (λ (e : y ≡ total periods costs n constant y). omega (arith, i .before y l u));
       })
 
+  -- Where every solution is beyond the bound there is none.
+  pub least-nowhere : ((z : ℕ) → 1 ≤ z → z ≡ total periods costs n constant z → bound < z) → least periods costs n constant bound ≡ none
+  unfolding least solves
+  least-nowhere h =
+      firstSuch-nowhere (solves periods costs n constant) bound 1
+      (λ y l u. ne-eqb _ _ (λ (e : y ≡ total periods costs n constant y). omega (arith, h y l e)))
+
   -- A search that has passed the bound shows that there is none.
   pub least-passed : {x : ℕ} → Stands (total periods costs n constant) x → bound < x → least periods costs n constant bound ≡ none
   unfolding least solves

@@ -4,3 +4,5 @@ pub mod Demand
 pub mod Search
 pub mod LeastLaws
 pub mod ShareLaws
+pub mod CatchLaws
+pub mod ClimbLaws

@@ -1,5 +1,5 @@
--- Loads that ask for more than every tick has are never done: what they ask for in x ticks is more than x, whatever x is. And
--- where loads ask for less, their shares say how far on a search may stand. Assumes nothing.
+-- Loads that ask for more than every tick has are never done: what they ask for in x ticks is more than x, whatever x is.
+-- Assumes nothing.
 use Prim.Native.Nat.{ℕ, zero, suc, _+_, _-_, _*_, _/_, _≤_, _<_, max}
 use native.Mathlib.Nat.{div-mul-le-self, lt-of-mul-lt-mul-right, mul-le-mul-left, mul-le-mul-right, mul-add, mul-assoc, mul-comm, mul-zero, suc-mul}
 use native.Mathlib.Omega.{arith}
@@ -9,10 +9,10 @@ use mathlib.Core.Logic.{⊎-elim}
 use mathlib.Core.List.{List}
 use lib.ListN.{getD}
 use Rattle.lists.specs.Range.{sumTo}
-use Rattle.lists.proofs.Over.{le-or-lt, sumTo-zero, sumTo-suc}
+use Rattle.lists.proofs.Over.{le-or-lt, sumTo-zero, sumTo-suc, sumTo-longer}
 use Rattle.least.specs.Up.{up}
 use Rattle.least.specs.Demand.{loadIn, demand, total}
-use Rattle.least.specs.Share.{unit, shareOf, shares}
+use Rattle.least.specs.Share.{unit, shareOf, shares, Fitting}
 use Rattle.least.specs.Least.{least}
 use Rattle.least.specs.Search.{Loads, Stands}
 use Rattle.least.proofs.Up.{up-holds, up-mono}
@@ -65,66 +65,8 @@ module _ (periods costs : List ℕ) where
         })
         (omega arith)
 
-------------------------------------------------------------------------
--- Where a search may stand by the shares: the last load asks for no less than it does in x ticks, and the others for their share of
--- every tick. Nothing up to the quotient is then above the total.
-
-module _ (periods costs : List ℕ) (last constant : ℕ) (l : Loads periods costs (last + 1)) {x : ℕ} (s : Stands (total periods costs (last + 1) constant) x) where
-  abbrev lastIn : ℕ → ℕ
-  lastIn y = up y (getD periods last 0) * getD costs last 0
-
-  module _ (asked : ℕ) (e : asked ≡ constant + lastIn x) (less : shares periods costs last < unit) where
-    abbrev spare : ℕ
-    spare = unit - shares periods costs last
-
-    abbrev reached : ℕ
-    reached = asked * unit / spare
-
-    -- What is asked for in y ticks, from x on.
-    asks : (y : ℕ) → x ≤ y → asked * unit + y * shares periods costs last ≤ total periods costs (last + 1) constant y * unit
-    unfolding total
-    asks y u =
-        let no-less : lastIn x ≤ lastIn y = mul-le-mul-right (getD costs last 0) (up-mono (getD periods last 0) (l .period-pos last (omega arith)) u) in
-        omega (arith, e, no-less, shares-hold periods costs last y (loads-fewer last l (omega arith)), demand-suc periods costs last y)
-
-    -- Up to what is reached.
-    up-to : (y : ℕ) → y ≤ reached → y * spare ≤ asked * unit
-    up-to y u = omega (arith, mul-le-mul-right spare u, div-mul-le-self (asked * unit) spare)
-
-    by-parts : (y : ℕ) → y * unit ≡ y * spare + y * shares periods costs last
-    by-parts y = ap (λ (z : ℕ). y * z) (omega arith) ∙ mul-add y spare (shares periods costs last)
-
-    pub reached-stands : x ≤ reached → Stands (total periods costs (last + 1) constant) reached
-    reached-stands u =
-        record {
-          from = omega (arith, s .from);
-          rises = omega (arith, by-parts reached, up-to reached (omega arith), asks reached u);
-          before = λ y h w. ⊎-elim (λ (k : x ≤ y). omega (arith, by-parts y, up-to (suc y) w, suc-mul y spare, asks y k)) (λ (k : y < x). s .before y h k) (le-or-lt x y);
-        }
-
--- As the code computes it.
-pub further-on :
-    (periods costs : List ℕ) (n last constant : ℕ) → n ≡ last + 1 → Loads periods costs n → {x : ℕ} → Stands (total periods costs n constant) x →
-    (share asked r : ℕ) → share ≡ shares periods costs last → share < unit → asked ≡ constant + up x (getD periods last 0) * getD costs last 0 →
-    r ≡ max x (asked * unit / (unit - share)) → Stands (total periods costs n constant) r × (x ≤ r)
-further-on periods costs n last constant e l {x} s share asked r f less g h =
-    (rw e (⊎-elim beyond here (le-or-lt x (asked * unit / (unit - shares periods costs last)))), omega (arith, h))
-  where
-    is : r ≡ max x (asked * unit / (unit - shares periods costs last))
-    is = rw (← f) h
-
-    l′ : Loads periods costs (last + 1)
-    l′ = rw (← e) l
-
-    s′ : Stands (total periods costs (last + 1) constant) x
-    s′ = rw (← e) s
-
-    beyond : x ≤ asked * unit / (unit - shares periods costs last) → Stands (total periods costs (last + 1) constant) r
-    beyond u =
-        let there : r ≡ asked * unit / (unit - shares periods costs last) = omega (arith, is) in
-        rw there (reached-stands periods costs last constant l′ s′ asked g (rw (← f) less) u)
-
-    here : asked * unit / (unit - shares periods costs last) < x → Stands (total periods costs (last + 1) constant) r
-    here u =
-        let stays : r ≡ x = omega (arith, is) in
-        rw stays s′
+  -- With one load more than fit, and with any after it, there is no solution.
+  pub no-least-beyond : {n r s : ℕ} → Fitting periods costs n r → r ≤ s → s < n → Loads periods costs (s + 1) → (constant bound : ℕ) → least periods costs (s + 1) constant bound ≡ none
+  unfolding shares
+  no-least-beyond {n} {r} {s} f h u l =
+      no-least (s + 1) l (omega (arith, f .over (omega arith), sumTo-longer (shareOf periods costs) (r + 1) (s + 1) (omega arith)))

@@ -3,12 +3,10 @@
 use Prim.Native.Nat.{ℕ}
 use mathlib.Core.Bool.{Bool}
 use mathlib.Core.List.{List}
-use mathlib.Core.Option.{Option, none, some}
+use mathlib.Core.Option.{Option}
 use lib.Dec.{eqb}
 use Rattle.lists.specs.Range.{firstSuch}
 use Rattle.least.specs.Demand.{total}
-use Rattle.least.specs.declared.Least.{Least}
-use Rattle.least.specs.declared.Least.the-variants.{At, Beyond}
 
 -- Whether x solves x = constant + demand in x ticks.
 unfoldable pub solves : List ℕ → List ℕ → ℕ → ℕ → ℕ → Bool
@@ -17,8 +15,3 @@ solves periods costs n constant x = eqb x (total periods costs n constant x)
 -- The first of 1, 2, …, bound that solves it; none where none does. A solution of 0 does not count.
 unfoldable pub least : List ℕ → List ℕ → ℕ → ℕ → ℕ → Option ℕ
 least periods costs n constant bound = firstSuch (solves periods costs n constant) bound 1
-
--- How the code answers: at the least solution, or that it is beyond the bound.
-abbrev pub answered : Option ℕ → Least
-answered (some x) = At x
-answered none = Beyond

@@ -1,6 +1,6 @@
 -- What loads ask for of every tick: cost over period, in parts of a unit so that it is a whole number, rounded down.
 -- Assumes nothing.
-use Prim.Native.Nat.{ℕ, _*_, _/_, _^_}
+use Prim.Native.Nat.{ℕ, _+_, _*_, _/_, _^_, _≤_, _<_}
 use mathlib.Core.List.{List}
 use lib.ListN.{getD}
 use Rattle.lists.specs.Range.{sumTo}
@@ -15,3 +15,9 @@ shareOf periods costs t = getD costs t 0 * unit / getD periods t 0
 
 unfoldable pub shares : List ℕ → List ℕ → ℕ → ℕ
 shares periods costs n = sumTo (shareOf periods costs) n
+
+-- r of the first n loads ask together for no more than every tick has, and with one more, where there is one, for more.
+pub record Fitting (periods costs : List ℕ) (n r : ℕ) : Type 0 where
+  pub few : r ≤ n
+  pub fits : shares periods costs r ≤ unit
+  pub over : r < n → unit < shares periods costs (r + 1)

@@ -3,14 +3,20 @@ use Prim.Native.Nat.{_≤_}
 use mathlib.Core.Path.{_≡_}
 use lib.ListN.{length, take}
 use denote.Ref.{now}
-use borrow.Author.Needs.{needs}
 use Rattle.global.specs.Interfaces.{interfacesIn}
 use Rattle.global.specs.View.{viewOf}
+use Rattle.global.specs.Sound.{Sound-view}
 use Rattle.global.proofs.SeenLaws.{used-length}
 use Rattle.global.proofs.LentLaws as lent
-use Rattle.global.proofs.EndsLaws.{budget-lent, budget-at}
+use Rattle.global.proofs.EndsLaws.{ahead-small, budget-lent, budget-at}
+use native.Mathlib.Omega.{arith}
+use borrow.Author.Needs.{needs}
 use Rattle.ends.proofs.budget_end.Statement.{statement}
 use Rattle.ends.proofs.budget_end.Tie as tie
+use Rattle.ends.proofs.budget_end.Reads as reads
+use Rattle.ends.proofs.budget_end.Lts as lts
+use Rattle.ends.proofs.ahead_of_job.Reads as ahead-of-job-reads
+use Rattle.least.proofs.least_within.Reads as least-within-reads
 
 periods-long : (s : tie.Start) → s .args .n ≤ length (s .args .common .periods)
 periods-long s = lent.periods-long (s .args .n) (s .args .m) (now (s .args .lines)) (s .args .common) (s .pre .0) (s .pre .1 .0)
@@ -24,38 +30,55 @@ periods-lent s = lent.periods-lent (s .args .n) (s .args .m) (now (s .args .line
 costs-lent : (s : tie.Start) → take (s .args .n) (s .args .common .costs) ≡ viewOf (interfacesIn (s .args .n) (s .args .m) (now (s .args .lines))) (s .args .s) .costs
 costs-lent s = lent.costs-lent (s .args .n) (s .args .m) (now (s .args .lines)) (s .args .common) (s .pre .0) (s .pre .1 .0) (s .args .s)
 
+seen : (s : tie.Start) → Sound-view (viewOf (interfacesIn (s .args .n) (s .args .m) (now (s .args .lines))) (s .args .s))
+seen s = lent.lent-sound (s .args .n) (s .args .m) (now (s .args .lines)) (s .args .common) (s .pre .0) (s .pre .1 .0) (s .args .s) (s .pre .1 .1 .0)
+
+-- src/lib.rt:119:17
 ahead-of-job-requires : tie.Need-ahead-of-job-requires
 ahead-of-job-requires c κs = search needs
 
+-- src/lib.rt:119:17
+cast-ahead : tie.Need-cast-ahead
+cast-ahead c =
+    let s = c .before .before .before in
+    omega (arith, ahead-small _ (seen s) (periods-lent s) (costs-lent s) (s .pre .1 .1 .1), c .ahead-of-job .ensures)
+
+-- src/lib.rt:121:18
 array-share-prefix-periods : tie.Need-array-share-prefix-periods
 array-share-prefix-periods c = periods-long (c .before .before .before)
 
+-- src/lib.rt:121:18
 slice-aggregate-least-within : tie.Need-slice-aggregate-least-within
 slice-aggregate-least-within c = used-length _ _ (periods-long (c .before .before .before .before))
 
+-- src/lib.rt:121:33
 array-share-prefix-costs : tie.Need-array-share-prefix-costs
 array-share-prefix-costs c = costs-long (c .before .before .before .before)
 
+-- src/lib.rt:121:33
 slice-aggregate-least-within-2 : tie.Need-slice-aggregate-least-within-2
 slice-aggregate-least-within-2 c = used-length _ _ (costs-long (c .before .before .before .before .before))
 
+-- src/lib.rt:121:5
 least-within-requires : tie.Need-least-within-requires
 unfolding viewOf
 least-within-requires c κs =
-    let s = c .before .before .before .before .before in
-    budget-lent _ (lent.lent-sound (s .args .n) (s .args .m) (now (s .args .lines)) (s .args .common) (s .pre .0) (s .pre .1 .0) (s .args .s) (s .pre .1 .1 .0)) (periods-lent s) (costs-lent s) (s .pre .1 .1 .1) (c .before .before .ahead-of-job .ensures)
+    let s = c .before .before .before .before .before .before in
+    budget-lent _ (seen s) (periods-lent s) (costs-lent s) (s .pre .1 .1 .1) (c .before .before .before .ahead-of-job .ensures)
 
+-- src/lib.rt:103:1
 returns : tie.Need-returns
 unfolding viewOf
 returns c =
-    let s = c .before .before .before .before .before .before in
-    budget-at _ (lent.lent-sound (s .args .n) (s .args .m) (now (s .args .lines)) (s .args .common) (s .pre .0) (s .pre .1 .0) (s .args .s) (s .pre .1 .1 .0)) (periods-lent s) (costs-lent s) (s .pre .1 .1 .1) (c .before .before .before .ahead-of-job .ensures) (c .least-within .ensures)
+    let s = c .before .before .before .before .before .before .before in
+    budget-at _ (seen s) (periods-lent s) (costs-lent s) (s .pre .1 .1 .1) (c .before .before .before .before .ahead-of-job .ensures) (c .least-within .ensures .0)
 
 pub budget-end-spec : {M : Type 1} → statement M
 budget-end-spec =
     tie.close
     (tie.spec
     ahead-of-job-requires
+    cast-ahead
     array-share-prefix-periods
     slice-aggregate-least-within
     array-share-prefix-costs

@@ -1,45 +1,60 @@
 -- `global::rows::active_row` meets its contract: its parts do. Assumes nothing.
-use borrow.Author.Needs.{needs}
 use Rattle.global.specs.Ends.{jobs}
 use Rattle.global.proofs.ActiveLaws.{period-pos, active-from}
 use Rattle.global.proofs.RowLaws.{budget-below, overrun-computed, row-with}
+use native.Mathlib.Omega.{arith}
+use borrow.Author.Needs.{needs}
 use Rattle.global.proofs.rows.active_row.Statement.{statement}
 use Rattle.global.proofs.rows.active_row.Tie as tie
+use Rattle.global.proofs.rows.active_row.Reads as reads
+use Rattle.global.proofs.rows.active_row.Lts as lts
+use Rattle.global.proofs.responses.largest_response.Reads as largest-response-reads
+use Rattle.global.proofs.rows.judge.Reads as judge-reads
+use Rattle.least.proofs.round_up.Reads as round-up-reads
 
+-- src/rows.rt:56:9
 round-up-requires : tie.Need-round-up-requires
-round-up-requires c κs = (active-from _ (c .before .before .before .before .pre .0) (c .before .before .before .before .pre .1), period-pos _ (c .before .before .before .before .pre .0))
+round-up-requires c κs =
+    let s = c .before .before .before .before in
+    (active-from _ (s .pre .0) (s .pre .1 .0), period-pos _ (s .pre .0))
 
-worst-within-requires : tie.Need-worst-within-requires
+-- src/rows.rt:57:9
+largest-response-requires : tie.Need-largest-response-requires
 unfolding jobs
-worst-within-requires c κs =
+largest-response-requires c κs =
     let s = c .before .before .before .before .before in
-    (s .pre .0, (s .pre .1, c .round-up .ensures))
+    (s .pre .0, (record { active = s .args .active; is-active = s .pre .1 .0; all = c .round-up .ensures }, s .pre .1 .1))
 
-mul-t11 : tie.Need-mul-t11
-mul-t11 c = search needs
+-- src/rows.rt:59:18
+mul-t13 : tie.Need-mul-t13
+mul-t13 c = search needs
 
-shared-slice-read-t13 : tie.Need-shared-slice-read-t13
-shared-slice-read-t13 c = search needs
+-- src/rows.rt:59:18
+shared-slice-read-t15 : tie.Need-shared-slice-read-t15
+shared-slice-read-t15 c = search needs
 
-sub-t14 : tie.Need-sub-t14
-sub-t14 c = budget-below _ (c .before .before .before .before .before .before .before .before .pre .0)
+-- src/rows.rt:59:18
+sub-t16 : tie.Need-sub-t16
+sub-t16 c = budget-below _ (c .before .before .before .before .before .before .before .before .pre .0)
 
+-- src/rows.rt:66:18
 judge-requires : tie.Need-judge-requires
 judge-requires c κs = search needs
 
+-- src/rows.rt:39:1
 returns : tie.Need-returns
 returns c =
     let s = c .before .before .before .before .before .before .before .before .before in
-    row-with _ (s .args .failing) (s .args .active) (overrun-computed _ (s .pre .0)) (c .before .before .before .before .round-up .ensures) (c .before .before .before .worst-within .ensures) (c .judge .ensures)
+    row-with _ (s .args .failing) (s .args .active) (overrun-computed _ (s .pre .0)) (c .before .before .before .before .round-up .ensures) (c .before .before .before .largest-response .ensures) (c .judge .ensures)
 
 pub active-row-spec : {M : Type 1} → statement M
 active-row-spec =
     tie.close
     (tie.spec
     round-up-requires
-    worst-within-requires
-    mul-t11
-    shared-slice-read-t13
-    sub-t14
+    largest-response-requires
+    mul-t13
+    shared-slice-read-t15
+    sub-t16
     judge-requires
     returns)

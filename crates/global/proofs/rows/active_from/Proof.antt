@@ -1,0 +1,103 @@
+-- `global::rows::active_from` meets its contract: the search goes on from the first budget end. Assumes nothing.
+use Prim.Native.Nat.{ℕ, _-_, _*_}
+use mathlib.Core.Path.{_≡_, ap, ap₂}
+use lib.ListN.{getD, set}
+use Rattle.least.specs.Up.{up}
+use Rattle.least.proofs.Up.{up-is-tight}
+use Rattle.global.specs.View.{View, cost}
+use Rattle.global.specs.Computed.{seenBy}
+use Rattle.global.proofs.ActiveLaws.{period-pos}
+use Rattle.global.proofs.WaitLaws.{own-holds, own-small, blocking-left, active-after, active-found}
+use native.Mathlib.Omega.{arith}
+use borrow.Author.Needs.{needs}
+use Rattle.global.proofs.rows.active_from.Statement.{statement}
+use Rattle.global.proofs.rows.active_from.Tie as tie
+use Rattle.global.proofs.rows.active_from.Reads as reads
+use Rattle.global.proofs.rows.active_from.Lts as lts
+use Rattle.least.proofs.least_after.Reads as least-after-reads
+use Rattle.least.proofs.round_up.Reads as round-up-reads
+
+-- What is computed from the periods of its own that have begun.
+module _ (c : tie.After-round-up) where
+  abbrev entry : tie.Start
+  entry = c .before .before .before .before .before
+
+  abbrev v : View
+  v = seenBy (entry .args .periods .now) (entry .args .costs .now) (entry .args .holdings .now) (entry .args .ceilings .now) (entry .args .own)
+
+  end-is : c .round-up .result * entry .args .own .period ≡ up (entry .args .first) (v .period) * v .period
+  end-is = ap (λ (q : ℕ). q * entry .args .own .period) (c .round-up .ensures)
+
+  asked-is : c .round-up .result * getD (entry .args .costs .now) (entry .args .own .place) 0 ≡ up (entry .args .first) (v .period) * cost v
+  asked-is = ap₂ _*_ (c .round-up .ensures) (entry .pre .0 .own-cost)
+
+  more-is : c .round-up .result * getD (entry .args .costs .now) (entry .args .own .place) 0 - entry .args .own .budget ≡ up (entry .args .first) (v .period) * cost v - v .budget
+  more-is = ap (λ (x : ℕ). x - entry .args .own .budget) asked-is
+
+-- src/rows.rt:103:9
+round-up-requires : tie.Need-round-up-requires
+round-up-requires c κs =
+    let s = c .before .before .before .before in
+    (s .pre .1 .is-least .from, period-pos _ (s .pre .0))
+
+-- src/rows.rt:105:18
+mul-reached : tie.Need-mul-reached
+mul-reached c = record { fits = omega (arith, end-is (c .before), up-is-tight (entry (c .before) .args .first) (entry (c .before) .args .own .period) (period-pos _ (entry (c .before) .pre .0)), entry (c .before) .pre .0 .period-small, entry (c .before) .pre .1 .within) }
+
+-- src/rows.rt:105:5
+mul-reached-2 : tie.Need-mul-reached-2
+mul-reached-2 c = search needs
+
+-- src/rows.rt:105:5
+array-write-reached : tie.Need-array-write-reached
+array-write-reached c = entry (c .before) .pre .0 .few
+
+-- src/rows.rt:106:24
+mul-more : tie.Need-mul-more
+mul-more c = search needs
+
+-- src/rows.rt:106:24
+shared-slice-read-more : tie.Need-shared-slice-read-more
+shared-slice-read-more c = search needs
+
+-- src/rows.rt:106:16
+mul-more-2 : tie.Need-mul-more-2
+mul-more-2 c = record { fits = omega (arith, asked-is (c .before .before), own-small _ (entry (c .before .before) .pre .0) (entry (c .before .before) .pre .1), entry (c .before .before) .pre .0 .period-small, entry (c .before .before) .pre .1 .within) }
+
+-- src/rows.rt:106:16
+sub-more : tie.Need-sub-more
+sub-more c =
+    let r = c .before .before .before in
+    omega (arith, asked-is r, own-holds _ (entry r .pre .0) (entry r .pre .1))
+
+-- src/rows.rt:110:9
+add-least-after : tie.Need-add-least-after
+add-least-after c = search needs
+
+-- src/rows.rt:107:5
+least-after-requires : tie.Need-least-after-requires
+least-after-requires c κs =
+    let r = c .before .before .before .before in
+    (rw (end-is r, more-is r) (active-after _ (entry r .pre .0) (entry r .pre .1)), omega arith)
+
+-- src/rows.rt:89:1
+returns : tie.Need-returns
+returns c =
+    let r = c .before .before .before .before .before in
+    active-found _ (entry r .pre .0) (rw (more-is r, blocking-left _ (entry r .pre .0) (entry r .pre .1)) at (c .least-after .ensures .0))
+
+pub active-from-spec : {M : Type 1} → statement M
+active-from-spec =
+    tie.close
+    (tie.spec
+    round-up-requires
+    mul-reached
+    mul-reached-2
+    array-write-reached
+    mul-more
+    shared-slice-read-more
+    mul-more-2
+    sub-more
+    add-least-after
+    least-after-requires
+    returns)
