@@ -1,11 +1,12 @@
 -- What the code lends of interfaces and of what the rows share is what one subsystem sees. Assumes nothing.
-use Prim.Native.Nat.{ℕ, _+_, _*_, _≤_, _<_}
+use Prim.Native.Nat.{ℕ, _+_, _-_, _*_, _≤_, _<_}
 use native.Mathlib.Omega.{arith}
 use mathlib.Core.Path.{_≡_, sym, ap, ap₂, _∙_}
 use mathlib.Core.List.{List}
 use lib.ListN.{length, getD, take}
 use Rattle.lists.specs.Range.{upTo}
 use Rattle.lists.proofs.UpTo.{getD-padded}
+use Rattle.least.specs.Search.{Loads}
 use Rattle.table.specs.Limits.{most}
 use Rattle.global.specs.declared.ceilings.Common.{Common}
 use Rattle.global.specs.Interfaces.{budgetAt, heldAt, interfacesIn}
@@ -15,7 +16,7 @@ use Rattle.global.specs.View.{viewOf, resources, held, ceiling, cost}
 use Rattle.global.specs.Ends.{ahead}
 use Rattle.global.specs.Common.{commonOf}
 use Rattle.global.specs.Sound.{Sound, Sound-view, Counted}
-use Rattle.global.proofs.Slots.{few-of, few-resources-of, count-of, resources-of, budget-of-slot, holding-of-slot}
+use Rattle.global.proofs.Slots.{some-of, few-of, few-resources-of, count-of, resources-of, budget-of-slot, holding-of-slot}
 use Rattle.global.proofs.ViewLaws.{view-sound, resources-seen, held-seen, ceiling-seen, cost-seen}
 use Rattle.global.proofs.BudgetEndLaws.{jobs-before-within}
 use Rattle.global.proofs.SeenLaws.{long-enough, used-part, shared-periods, shared-costs, shared-ceilings}
@@ -64,6 +65,11 @@ module _ (n m : ℕ) (lines : List (List ℕ)) (c : Common) (sound : Sound (inte
       lent-sound = view-sound (interfacesIn n m lines) sound s in-use
 
       -- P(s) and Q(s) + X(s) in their slots.
+      -- The loads up to the last subsystem are all that are lent.
+      loads-lent : s + 1 ≡ n → Loads (take n (c .periods)) (take n (c .costs)) n
+      unfolding viewOf
+      loads-lent q = rw (periods-lent, costs-lent) (rw q at (lent-sound .fit .loads))
+
       pub period-lent : getD (c .periods) s 0 ≡ viewOf (interfacesIn n m lines) s .period
       unfolding viewOf
       period-lent =
@@ -87,6 +93,12 @@ module _ (n m : ℕ) (lines : List (List ℕ)) (c : Common) (sound : Sound (inte
           omega (arith, ap (λ (x : ℕ). k * x) here, jobs-before-within (viewOf (interfacesIn n m lines) s) lent-sound ct)
 
 -- X(s, l) in its slot.
+-- All loads that are lent.
+pub all-lent : (n m : ℕ) (lines : List (List ℕ)) (c : Common) → Sound (interfacesIn n m lines) → c ≡ commonOf (interfacesIn n m lines) → Loads (take n (c .periods)) (take n (c .costs)) n
+all-lent n m lines c sound e =
+    let some : 1 ≤ n = some-of n m lines sound in
+    loads-lent n m lines c sound e (n - 1) (omega arith) (omega arith)
+
 module _ (n m : ℕ) (lines : List (List ℕ)) (s l : ℕ) (h : s < n) (k : l < m) where
   pub held-lent : heldAt lines s l ≡ held (viewOf (interfacesIn n m lines) s) l
   unfolding interfacesIn

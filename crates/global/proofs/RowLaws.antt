@@ -1,5 +1,5 @@
 -- Laws of the row: from its parts, with an active period and without. Assumes nothing.
-use Prim.Native.Nat.{ℕ, _+_, _-_, _≤_}
+use Prim.Native.Nat.{ℕ, _+_, _-_, _≤_, _<_}
 use native.Mathlib.Omega.{arith}
 use mathlib.Core.Path.{_≡_, ap, _∙_}
 use mathlib.Core.Option.{none, some}
@@ -64,6 +64,6 @@ module _ (v : View) (sv : Sound-view v) where
   overrun-computed = omega (arith, sv .own-cost)
 
   -- Loads that ask for too much leave no active period.
-  pub never-active : {r : ℕ} → Fitting (v .periods) (v .costs) (v .place + 1) r → r ≤ v .place → activePeriod v ≡ none
+  pub never-active : {n r : ℕ} → Fitting (v .periods) (v .costs) n r → v .place < n → r ≤ v .place → activePeriod v ≡ none
   unfolding activePeriod
-  never-active f h = no-least-beyond (v .periods) (v .costs) f h (omega arith) (sv .fit .loads) (v .blocking) horizon
+  never-active f u h = no-least-beyond (v .periods) (v .costs) f h u (sv .fit .loads) (v .blocking) horizon

@@ -8,6 +8,9 @@ use table::Table;
 ghost use mathlib.Core.Path.{_≡_};
 ghost use Prim.Native.Nat.{_<_, _≤_};
 ghost use Rattle.lists.specs.Range.{largestTo, padded};
+ghost use lib.ListN.{length, take};
+ghost use Rattle.least.specs.Share.{Fitting};
+ghost use Rattle.least.specs.Search.{Loads};
 ghost use Rattle.table.specs.Limits.{most};
 ghost use Rattle.global.specs.Interfaces.{periodAt, heldAt, interfacesIn};
 ghost use Rattle.global.specs.Parts.{costOf};
@@ -104,4 +107,16 @@ pub fn in_common(lines: &[[u32; WIDTH]; Table::MOST], n: usize, m: usize) -> Com
         costs: costs_of(lines, n, m),
         ceilings: ceilings_of(lines, n, m),
     }
+}
+
+// How many of the n subsystems, from the first on, ask together for no more than every tick has. One behind them has no active
+// period.
+pub fn fitting_of(common: Common, n: usize) -> usize
+    requires { ⌜ Loads (take n (common .periods)) (take n (common .costs)) n ⌝ }
+    requires { ⌜ (n ≤ length (common .periods)) × (n ≤ length (common .costs)) ⌝ }
+    ensures { λ r. ⌜ Fitting (take n (common .periods)) (take n (common .costs)) n r ⌝ }
+{
+    let periods = common.periods;
+    let costs = common.costs;
+    least::fitting(&periods[..n], &costs[..n], n)
 }

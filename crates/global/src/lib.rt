@@ -12,6 +12,7 @@ mod rows;
 
 pub use blocking::blocking_of;
 pub use ceilings::Common;
+pub use ceilings::fitting_of;
 pub use ceilings::in_common;
 pub use rows::row_of;
 

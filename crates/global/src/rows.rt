@@ -9,12 +9,13 @@ use crate::interfaces::period;
 use crate::leading::leading;
 use crate::responses::Own;
 use crate::responses::largest_response;
-use least::fitting;
 use least::least_after;
 use least::round_up;
 use table::Table;
 ghost use mathlib.Core.Path.{_≡_};
-ghost use mathlib.Core.Option.{some};
+ghost use mathlib.Core.Option.{none, some};
+ghost use lib.ListN.{take};
+ghost use Rattle.least.specs.Share.{Fitting};
 ghost use Prim.Native.Nat.{_-_, _≤_, _<_};
 ghost use Rattle.global.specs.Interfaces.{interfacesIn};
 ghost use Rattle.global.specs.declared.Outcome.the-variants.{None};
@@ -115,8 +116,8 @@ fn active_from(
     )
 }
 
-// The row from what the subsystem has before it. Loads that ask for more than every tick has leave no active period, and nothing
-// is searched for; else the first budget end is, and the active period from there.
+// The row from what the subsystem has before it. Only the first `fits` subsystems ask for no more than every tick has; for one
+// behind them nothing is searched. Else the first budget end is, and the active period from there.
 fn row_seen(
     periods: &[u32],
     costs: &[u32],
@@ -124,13 +125,15 @@ fn row_seen(
     ceilings: &[usize],
     own: Own,
     failing: u32,
+    fits: usize,
 ) -> Row
     requires { ⌜ Sound-view (seenBy (now periods) (now costs) (now holdings) (now ceilings) own) ⌝ }
+    requires { ⌜ (fits ≤ own .place → activePeriod (seenBy (now periods) (now costs) (now holdings) (now ceilings) own) ≡ none) ⌝ }
     ensures { λ r. ⌜ r ≡ rowFor (seenBy (now (periods .entry)) (now (costs .entry)) (now (holdings .entry)) (now (ceilings .entry)) own) failing (activePeriod (seenBy (now (periods .entry)) (now (costs .entry)) (now (holdings .entry)) (now (ceilings .entry)) own)) ⌝ }
 {
     let s = own.place;
     let cost = costs[s];
-    if fitting(periods, costs, s + 1) <= s {
+    if fits <= s {
         return row_without(own, cost, failing);
     }
     let mut ends = [0u32; Table::MOST];
@@ -156,17 +159,20 @@ fn row_seen(
     )
 }
 
-// The row of subsystem s, with the number of its first failing task, 0 for none. `common` is what all rows share.
+// The row of subsystem s, with the number of its first failing task, 0 for none. `common` is what all rows share, and the first
+// `fits` subsystems ask for no more than every tick has.
 pub fn row_of(
     lines: &[[u32; WIDTH]; Table::MOST],
     n: usize,
     m: usize,
     common: Common,
+    fits: usize,
     s: usize,
     failing: u32,
 ) -> Row
     requires { ⌜ Sound (interfacesIn n m (now lines)) ⌝ }
     requires { ⌜ common ≡ commonOf (interfacesIn n m (now lines)) ⌝ }
+    requires { ⌜ Fitting (take n (common .periods)) (take n (common .costs)) n fits ⌝ }
     requires { ⌜ s < n ⌝ }
     ensures { λ r. ⌜ r ≡ rowOf (interfacesIn n m (now (lines .entry))) s failing ⌝ }
 {
@@ -187,5 +193,6 @@ pub fn row_of(
         &ceilings[..m],
         own,
         failing,
+        fits,
     )
 }

@@ -48,6 +48,7 @@ pub fn rows_of(
     let mut lines = [[0u32; WIDTH]; Table::MOST];
     interfaces_of(grid, n, m, holdings, &mut lines);
     let common = global::in_common(&lines, n, m);
+    let fits = global::fitting_of(common, n);
     let costs = common.costs;
     let mut rows = [no_row(); Table::MOST];
     let mut s = 0;
@@ -55,7 +56,7 @@ pub fn rows_of(
         let block = &grid[s];
         let end = period(block) - (costs[s] - budget(block));
         let failing = first_failing_task(block, m, end);
-        rows[s] = global::row_of(&lines, n, m, common, s, failing as u32);
+        rows[s] = global::row_of(&lines, n, m, common, fits, s, failing as u32);
         s += 1;
     }
     rows

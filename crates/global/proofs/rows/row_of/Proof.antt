@@ -12,6 +12,7 @@ use Rattle.global.specs.Blocking.{outerCeiling}
 use Rattle.global.specs.View.{viewOf}
 use Rattle.global.proofs.Slots.{few-of, few-resources-of, resources-of}
 use Rattle.global.proofs.SeenLaws.{long-enough, used-length, led-part, own-is, seen-sound, seen-row}
+use Rattle.global.proofs.RowLaws.{never-active}
 use Rattle.global.proofs.LentLaws as lent
 use Rattle.global.proofs.rows.row_of.Statement.{statement}
 use Rattle.global.proofs.rows.row_of.Tie as tie
@@ -21,7 +22,7 @@ abbrev Entry : Type 0
 Entry = tie.Start
 
 listed : (s : Entry) → s .args .s < most
-listed s = omega (arith, few-of (s .args .n) (s .args .m) (now (s .args .lines)) (s .pre .0), s .pre .1 .1)
+listed s = omega (arith, few-of (s .args .n) (s .args .m) (now (s .args .lines)) (s .pre .0), s .pre .1 .1 .1)
 
 few : (s : Entry) → s .args .m ≤ most
 few s = few-resources-of (s .args .n) (s .args .m) (now (s .args .lines)) (s .pre .0)
@@ -50,7 +51,7 @@ ceilings-seen : (s : Entry) → take (s .args .m) (s .args .common .ceilings) �
 ceilings-seen s = ceilings-used s ∙ ap (upTo (outerCeiling (interfacesIn (s .args .n) (s .args .m) (now (s .args .lines))))) (sym (resources-of (s .args .n) (s .args .m) (now (s .args .lines))))
 
 in-use : (s : Entry) → s .args .s < count (interfacesIn (s .args .n) (s .args .m) (now (s .args .lines)))
-in-use s = lent.in-use (s .args .n) (s .args .m) (now (s .args .lines)) (s .args .common) (s .pre .0) (s .pre .1 .0) (s .args .s) (s .pre .1 .1)
+in-use s = lent.in-use (s .args .n) (s .args .m) (now (s .args .lines)) (s .args .common) (s .pre .0) (s .pre .1 .0) (s .args .s) (s .pre .1 .1 .1)
 
 -- How many resources the ceilings that are lent have.
 ceilings-count : (s : Entry) → s .args .m ≡ length (take (s .args .m) (s .args .common .ceilings))
@@ -91,7 +92,7 @@ slice-aggregate-blocking-of-2 c = ceilings-count (c .before .before .before .bef
 blocking-of-requires : tie.Need-blocking-of-requires
 blocking-of-requires c κs =
     let s = c .before .before .before .before .before .before .before .before .before in
-    (s .pre .0, (lent.costs-used (s .args .n) (s .args .m) (now (s .args .lines)) (s .args .common) (s .pre .0) (s .pre .1 .0), (ceilings-used s, s .pre .1 .1)))
+    (s .pre .0, (lent.costs-used (s .args .n) (s .args .m) (now (s .args .lines)) (s .args .common) (s .pre .0) (s .pre .1 .0), (ceilings-used s, s .pre .1 .1 .1)))
 
 array-share-prefix-periods : tie.Need-array-share-prefix-periods
 array-share-prefix-periods c = periods-long (c .before .before .before .before .before .before .before .before .before .before)
@@ -120,12 +121,13 @@ slice-aggregate-row-seen-4 c = ceilings-count (c .before .before .before .before
 row-seen-requires : tie.Need-row-seen-requires
 row-seen-requires c κs =
     let s = c .before .before .before .before .before .before .before .before .before .before .before .before .before .before in
-    seen-sound (interfacesIn (s .args .n) (s .args .m) (now (s .args .lines))) (s .pre .0) (s .args .s) (in-use s) (periods-used s) (costs-used s) (led-part (s .args .n) (s .args .m) (now (s .args .lines)) (s .args .s) (s .pre .1 .1) _ (ceilings-used s) (c .before .before .before .before .before .before .before .before .before .leading .ensures)) (ceilings-seen s) (own-is (s .args .n) (s .args .m) (now (s .args .lines)) (s .args .s) (s .pre .1 .1) (c .before .before .before .before .before .before .before .before .period .ensures) (c .before .before .before .before .before .before .before .budget .ensures) (c .before .before .before .before .blocking-of .ensures))
+    let sound = seen-sound (interfacesIn (s .args .n) (s .args .m) (now (s .args .lines))) (s .pre .0) (s .args .s) (in-use s) (periods-used s) (costs-used s) (led-part (s .args .n) (s .args .m) (now (s .args .lines)) (s .args .s) (s .pre .1 .1 .1) _ (ceilings-used s) (c .before .before .before .before .before .before .before .before .before .leading .ensures)) (ceilings-seen s) (own-is (s .args .n) (s .args .m) (now (s .args .lines)) (s .args .s) (s .pre .1 .1 .1) (c .before .before .before .before .before .before .before .before .period .ensures) (c .before .before .before .before .before .before .before .budget .ensures) (c .before .before .before .before .blocking-of .ensures)) in
+    (sound, λ h. never-active _ sound (s .pre .1 .1 .0) (s .pre .1 .1 .1) h)
 
 returns : tie.Need-returns
 returns c =
     let s = c .before .before .before .before .before .before .before .before .before .before .before .before .before .before .before in
-    seen-row (interfacesIn (s .args .n) (s .args .m) (now (s .args .lines))) (s .pre .0) (s .args .s) (in-use s) (periods-used s) (costs-used s) (led-part (s .args .n) (s .args .m) (now (s .args .lines)) (s .args .s) (s .pre .1 .1) _ (ceilings-used s) (c .before .before .before .before .before .before .before .before .before .before .leading .ensures)) (ceilings-seen s) (own-is (s .args .n) (s .args .m) (now (s .args .lines)) (s .args .s) (s .pre .1 .1) (c .before .before .before .before .before .before .before .before .before .period .ensures) (c .before .before .before .before .before .before .before .before .budget .ensures) (c .before .before .before .before .before .blocking-of .ensures)) (s .args .failing) (c .row-seen .ensures)
+    seen-row (interfacesIn (s .args .n) (s .args .m) (now (s .args .lines))) (s .pre .0) (s .args .s) (in-use s) (periods-used s) (costs-used s) (led-part (s .args .n) (s .args .m) (now (s .args .lines)) (s .args .s) (s .pre .1 .1 .1) _ (ceilings-used s) (c .before .before .before .before .before .before .before .before .before .before .leading .ensures)) (ceilings-seen s) (own-is (s .args .n) (s .args .m) (now (s .args .lines)) (s .args .s) (s .pre .1 .1 .1) (c .before .before .before .before .before .before .before .before .before .period .ensures) (c .before .before .before .before .before .before .before .before .budget .ensures) (c .before .before .before .before .before .blocking-of .ensures)) (s .args .failing) (c .row-seen .ensures)
 
 pub row-of-spec : {M : Type 1} → statement M
 row-of-spec =

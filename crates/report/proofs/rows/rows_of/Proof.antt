@@ -14,6 +14,8 @@ use Rattle.report.proofs.rows.rows_of.Statement.{statement}
 use Rattle.report.proofs.rows.rows_of.Tie as tie
 use Rattle.report.proofs.rows.rows_of.Reads as reads
 use Rattle.report.proofs.rows.rows_of.Lts as lts
+use Rattle.global.proofs.LentLaws as lent
+use Rattle.global.proofs.fitting_of.Reads as fitting-of-reads
 use Rattle.global.proofs.in_common.Reads as in-common-reads
 use Rattle.global.proofs.row_of.Reads as row-of-reads
 use Rattle.local.proofs.first_failing_task.Reads as first-failing-task-reads
@@ -23,10 +25,10 @@ use Rattle.table.proofs.grid.budget.Reads as budget-reads
 use Rattle.table.proofs.grid.period.Reads as period-reads
 
 abbrev Inv-loop : tie.InvT-loop
-Inv-loop grid n m holdings lines common costs rows₀ s₀ rows s = (n ≤ most) × (s ≤ n) × (rows ≡ padded (rowAt (systemIn n m grid)) noRow most s)
+Inv-loop grid n m holdings lines common fits costs rows₀ s₀ rows s = (n ≤ most) × (s ≤ n) × (rows ≡ padded (rowAt (systemIn n m grid)) noRow most s)
 
 abbrev μ-loop : tie.MeasureT-loop
-μ-loop grid n m holdings lines common costs rows₀ s₀ rows s = n - s
+μ-loop grid n m holdings lines common fits costs rows₀ s₀ rows s = n - s
 
 -- src/rows.rt:49:5
 interfaces-of-requires : tie.Need-interfaces-of-requires Inv-loop μ-loop
@@ -36,13 +38,21 @@ interfaces-of-requires c κs = (c .before .pre .0, (c .before .pre .1, refl))
 in-common-requires : tie.Need-in-common-requires Inv-loop μ-loop
 in-common-requires c κs = sound-lines _ _ _ _ (c .before .interfaces-of .ensures) (c .before .before .before .pre .0)
 
+-- src/rows.rt:51:9
+fitting-of-requires : tie.Need-fitting-of-requires Inv-loop μ-loop
+fitting-of-requires c κs =
+    let io = c .before .before in
+    let s = io .before .before in
+    let sound = sound-lines _ _ _ _ (io .interfaces-of .ensures) (s .pre .0) in
+    (lent.all-lent (s .args .n) (s .args .m) _ _ sound (c .in-common .ensures), (lent.periods-long (s .args .n) (s .args .m) _ _ sound (c .in-common .ensures), lent.costs-long (s .args .n) (s .args .m) _ _ sound (c .in-common .ensures)))
+
 -- src/rows.rt:52:21
 no-row-requires : tie.Need-no-row-requires Inv-loop μ-loop
 no-row-requires c κs = search needs
 
 -- src/rows.rt:54:5
 loop-holds : tie.Need-loop-holds Inv-loop μ-loop
-loop-holds c = (few-subsystems _ _ _ (c .before .before .before .before .before .before .pre .0) .0, search needs, rw (c .no-row .ensures) (sym (padded-none _ _ _)))
+loop-holds c = (few-subsystems _ _ _ (c .before .before .before .before .before .before .before .pre .0) .0, search needs, rw (c .no-row .ensures) (sym (padded-none _ _ _)))
 
 -- src/rows.rt:55:21
 mul-block : tie.Need-mul-block Inv-loop μ-loop
@@ -73,7 +83,7 @@ sub-end : tie.Need-sub-end Inv-loop μ-loop
 sub-end c =
     let b = c in
     let k = b .before .before .before .before in
-    let ic = k .before .before .before in
+    let ic = k .before .before .before .before in
     let io = ic .before .before in
     let s = io .before .before in
     let below = b .before .before .before .loop-test .taken in
@@ -84,7 +94,7 @@ sub-end-2 : tie.Need-sub-end-2 Inv-loop μ-loop
 sub-end-2 c =
     let b = c in
     let k = b .before .before .before .before in
-    let ic = k .before .before .before in
+    let ic = k .before .before .before .before in
     let io = ic .before .before in
     let s = io .before .before in
     let below = b .before .before .before .loop-test .taken in
@@ -95,7 +105,7 @@ first-failing-task-requires : tie.Need-first-failing-task-requires Inv-loop μ-l
 first-failing-task-requires c κs =
     let b = c in
     let k = b .before .before .before .before in
-    let ic = k .before .before .before in
+    let ic = k .before .before .before .before in
     let io = ic .before .before in
     let s = io .before .before in
     let below = b .before .before .before .loop-test .taken in
@@ -110,11 +120,11 @@ row-of-requires : tie.Need-row-of-requires Inv-loop μ-loop
 row-of-requires c κs =
     let b = c .before .before in
     let k = b .before .before .before .before in
-    let ic = k .before .before .before in
+    let ic = k .before .before .before .before in
     let io = ic .before .before in
     let s = io .before .before in
     let below = b .before .before .before .loop-test .taken in
-    (sound-lines _ _ _ _ (io .interfaces-of .ensures) (s .pre .0), (ic .in-common .ensures, below))
+    (sound-lines _ _ _ _ (io .interfaces-of .ensures) (s .pre .0), (ic .in-common .ensures, (k .before .before .before .fitting-of .ensures, below)))
 
 -- src/rows.rt:58:9
 mul-rows : tie.Need-mul-rows Inv-loop μ-loop
@@ -137,7 +147,7 @@ loop-again : tie.Need-loop-again Inv-loop μ-loop
 loop-again c =
     let b = c .before .before .before in
     let k = b .before .before .before .before in
-    let ic = k .before .before .before in
+    let ic = k .before .before .before .before in
     let io = ic .before .before in
     let s = io .before .before in
     let below = b .before .before .before .loop-test .taken in
@@ -147,7 +157,7 @@ loop-again c =
 returns : tie.Need-returns Inv-loop μ-loop
 returns c =
     let k = c .before in
-    let s = k .before .before .before .before .before .before .before in
+    let s = k .before .before .before .before .before .before .before .before in
     k .loop .inv .2 ∙ ap (padded (rowAt (systemIn (s .args .n) (s .args .m) (s .args .grid .now))) noRow most) (omega (arith, c .loop-test .left, k .loop .inv .1))
 
 pub rows-of-spec : {M : Type 1} → statement M
@@ -158,6 +168,7 @@ rows-of-spec =
     μ-loop
     interfaces-of-requires
     in-common-requires
+    fitting-of-requires
     no-row-requires
     loop-holds
     mul-block
