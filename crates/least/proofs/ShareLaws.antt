@@ -1,22 +1,21 @@
 -- Loads that ask for more than every tick has are never done: what they ask for in x ticks is more than x, whatever x is.
 -- Assumes nothing.
-use Prim.Native.Nat.{ℕ, zero, suc, _+_, _-_, _*_, _/_, _≤_, _<_, max}
-use native.Mathlib.Nat.{div-mul-le-self, lt-of-mul-lt-mul-right, mul-le-mul-left, mul-le-mul-right, mul-add, mul-assoc, mul-comm, mul-zero, suc-mul}
+use Prim.Native.Nat.{ℕ, zero, suc, _+_, _*_, _/_, _≤_, _<_}
+use native.Mathlib.Nat.{div-mul-le-self, lt-of-mul-lt-mul-right, mul-le-mul-left, mul-le-mul-right, mul-add, mul-assoc, mul-comm, mul-zero}
 use native.Mathlib.Omega.{arith}
-use mathlib.Core.Path.{_≡_, refl, sym, ap, _∙_}
+use mathlib.Core.Path.{_≡_, ap, _∙_}
 use mathlib.Core.Option.{none}
-use mathlib.Core.Logic.{⊎-elim}
 use mathlib.Core.List.{List}
 use lib.ListN.{getD}
 use Rattle.lists.specs.Range.{sumTo}
-use Rattle.lists.proofs.Over.{le-or-lt, sumTo-zero, sumTo-suc, sumTo-longer}
+use Rattle.lists.proofs.Over.{sumTo-zero, sumTo-suc, sumTo-longer}
 use Rattle.least.specs.Up.{up}
 use Rattle.least.specs.Demand.{loadIn, demand, total}
 use Rattle.least.specs.Share.{unit, shareOf, shares, Fitting}
 use Rattle.least.specs.Least.{least}
-use Rattle.least.specs.Search.{Loads, Stands}
-use Rattle.least.proofs.Up.{up-holds, up-mono}
-use Rattle.least.proofs.Demand.{loads-fewer, demand-suc}
+use Rattle.least.specs.Search.{Loads}
+use Rattle.least.proofs.Up.{up-holds}
+use Rattle.least.proofs.Demand.{loads-fewer}
 use Rattle.least.proofs.LeastLaws.{least-passed}
 
 -- In x ticks a load asks for at least x times its share.
@@ -65,8 +64,12 @@ module _ (periods costs : List ℕ) where
         })
         (omega arith)
 
+  -- More loads ask for no less.
+  pub shares-longer : (m n : ℕ) → m ≤ n → shares periods costs m ≤ shares periods costs n
+  unfolding shares
+  shares-longer m n h = sumTo-longer (shareOf periods costs) m n h
+
   -- With one load more than fit, and with any after it, there is no solution.
   pub no-least-beyond : {n r s : ℕ} → Fitting periods costs n r → r ≤ s → s < n → Loads periods costs (s + 1) → (constant bound : ℕ) → least periods costs (s + 1) constant bound ≡ none
-  unfolding shares
   no-least-beyond {n} {r} {s} f h u l =
-      no-least (s + 1) l (omega (arith, f .over (omega arith), sumTo-longer (shareOf periods costs) (r + 1) (s + 1) (omega arith)))
+      no-least (s + 1) l (omega (arith, f .over (omega arith), shares-longer (r + 1) (s + 1) (omega arith)))
