@@ -7,7 +7,7 @@ use Rattle.least.specs.Demand.{total}
 use Rattle.least.specs.Search.{IsLeast}
 use Rattle.least.specs.After.{afterwards}
 use Rattle.least.proofs.Search.{stands-below}
-use Rattle.global.specs.Computed.{Budget-over, Responded}
+use Rattle.global.specs.Computed.{Budget-over}
 
 module _ (periods costs : List ℕ) (n end held : ℕ) (a : Budget-over periods costs n end held) where
   module _ {z : ℕ} (i : IsLeast (total periods costs n (afterwards periods costs n end held)) z) where
@@ -17,9 +17,6 @@ module _ (periods costs : List ℕ) (n end held : ℕ) (a : Budget-over periods 
         stands-below (total periods costs n (afterwards periods costs n end held)) (a .waits .stands) (i .from)
         (omega (arith, i .solution))
 
-    pub after-responds : (release : ℕ) → 0 < held → release ≤ end → Responded periods costs n end held release (z - release)
-    after-responds release u h =
-        record {
-          counted = λ _. rw (sub-add-cancel {n = z} {m = release} (omega (arith, after-from))) i;
-          uncounted = λ q. absurd (omega arith);
-        }
+    -- So the release can be taken off.
+    pub after-responds : (release : ℕ) → release ≤ end → IsLeast (total periods costs n (afterwards periods costs n end held)) (z - release + release)
+    after-responds release h = rw (sub-add-cancel {n = z} {m = release} (omega (arith, after-from))) i

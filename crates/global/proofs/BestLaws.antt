@@ -38,6 +38,10 @@ best-step f n {b} {r} {x} e q h =
     (λ (u : largestTo f n < f n). rw (lt-ltb _ _ u) (best-new f n u))
     (le-or-lt (f n) (largestTo f n))
 
+-- A value of 0 changes nothing.
+pub best-stays : (f : ℕ → ℕ) (n : ℕ) {b : Best} → b ≡ bestOf f n → f n ≡ 0 → b ≡ bestOf f (n + 1)
+best-stays f n {b} e q = best-step f n {x = 0} e (sym q) (rw (le-ltb 0 (b .value) (omega arith)) refl)
+
 module _ (v : View) where
   -- The first job is the worst of itself.
   pub worst-first : {j : Job} → j ≡ jobOf v 0 → record { response = j .response; job = 0; resource = j .resource } ≡ worstOf v 1

@@ -10,20 +10,31 @@ use lib.ListN.{getD}
 use borrow.Author.Tests.{lt-ltb, le-ltb}
 use Rattle.lists.specs.Range.{largestTo}
 use Rattle.lists.proofs.Over.{le-or-lt}
+use Rattle.least.specs.Demand.{total}
 use Rattle.least.specs.Search.{IsLeast}
 use Rattle.least.specs.After.{afterwards}
 use Rattle.least.proofs.ClimbLaws.{fit-fewer}
 use Rattle.least.proofs.Search.{least-is-one}
 use Rattle.global.specs.View.{View, resources, held, ceiling, overrun, cost}
-use Rattle.global.specs.Ends.{budgetEnd}
+use Rattle.global.specs.Ends.{budgetEnd, jobEnd}
 use Rattle.global.specs.Response.{firstAt, responseWith, jobResponse, jobResource}
 use Rattle.global.specs.Sound.{Sound-view, Counted}
-use Rattle.global.specs.Computed.{Budget-over, Responded, bestOf, jobOf}
+use Rattle.global.specs.Computed.{Budget-over, bestOf, jobOf}
 use Rattle.global.specs.declared.responses.Best.{Best}
 use Rattle.global.proofs.MoreRange.{firstAt-within}
 use Rattle.global.proofs.ActiveLaws.{active-within}
 use Rattle.global.proofs.BudgetEndLaws.{budget-end-is-least}
 use Rattle.global.proofs.JobEndLaws.{jobConstant, jobTotal, constant-by-end, job-end-starts, job-end-from, job-end-within, job-comes-down, job-end-is-least}
+
+-- The response with a resource that is held, and with one that is not.
+module _ (v : View) (k l : ℕ) where
+  pub counted-response : 0 < held v l → responseWith v k l ≡ jobEnd v k l - k * v .period
+  unfolding responseWith
+  counted-response u = rw (lt-ltb 0 (held v l) u) refl
+
+  pub uncounted-response : held v l ≤ 0 → responseWith v k l ≡ 0
+  unfolding responseWith
+  uncounted-response u = rw (le-ltb 0 (held v l) u) refl
 
 module _ (v : View) (sv : Sound-view v) {k : ℕ} (ct : Counted v k) (l : ℕ) (within : l < resources v) where
   afterwards-is : 0 < held v l → afterwards (v .periods) (v .costs) (ceiling v l) (budgetEnd v k) (held v l) ≡ jobConstant v k l
@@ -48,22 +59,13 @@ module _ (v : View) (sv : Sound-view v) {k : ℕ} (ct : Counted v k) (l : ℕ) (
       })
 
   -- What it gives is the response with that resource.
-  pub responds : {end r : ℕ} → end ≡ budgetEnd v k → Responded (v .periods) (v .costs) (ceiling v l) end (held v l) (k * v .period) r → r ≡ responseWith v k l
+  pub responds : {end r : ℕ} → end ≡ budgetEnd v k → 0 < held v l → IsLeast (total (v .periods) (v .costs) (ceiling v l) (afterwards (v .periods) (v .costs) (ceiling v l) end (held v l))) (r + k * v .period) → r ≡ responseWith v k l
   unfolding responseWith
-  responds {end} {r} q given = ⊎-elim uncounted counted (le-or-lt (held v l) 0)
-    where
-      d : Responded (v .periods) (v .costs) (ceiling v l) (budgetEnd v k) (held v l) (k * v .period) r
-      d = rw q at given
-
-      uncounted : held v l ≤ 0 → r ≡ responseWith v k l
-      uncounted u = rw (le-ltb 0 (held v l) u) (d .uncounted u)
-
-      counted : 0 < held v l → r ≡ responseWith v k l
-      counted u =
-          let least : IsLeast (jobTotal v k l) (r + k * v .period) = rw (afterwards-is u) at (d .counted u) in
-          rw (lt-ltb 0 (held v l) u)
-          (sym (add-sub-cancel r (k * v .period)) ∙
-          ap (λ (z : ℕ). z - k * v .period) (least-is-one (jobTotal v k l) least (job-end-is-least v sv ct l within u)))
+  responds {end} {r} q u i =
+      let least : IsLeast (jobTotal v k l) (r + k * v .period) = rw (q, afterwards-is u) at i in
+      rw (lt-ltb 0 (held v l) u)
+      (sym (add-sub-cancel r (k * v .period)) ∙
+      ap (λ (z : ℕ). z - k * v .period) (least-is-one (jobTotal v k l) least (job-end-is-least v sv ct l within u)))
 
 module _ (v : View) (k : ℕ) where
   -- Without resources a job ends with its budget.

@@ -20,18 +20,8 @@ use Rattle.global.specs.declared.responses.Worst.{Worst}
 use Rattle.global.proofs.ActiveLaws.{budget-at-most}
 use Rattle.global.proofs.BudgetEndLaws.{budget-end-next, released-before-end}
 use Rattle.global.proofs.JobEndLaws.{job-end-before-next, released-before-job-end}
-use Rattle.global.proofs.ResponseLaws.{response-without, response-with}
+use Rattle.global.proofs.ResponseLaws.{counted-response, uncounted-response, response-without, response-with}
 use Rattle.global.proofs.BestLaws.{worst-first, worst-step, worst-stays}
-
--- The response with a resource that is held, and with one that is not.
-module _ (v : View) (k l : ℕ) where
-  counted-response : 0 < held v l → responseWith v k l ≡ jobEnd v k l - k * v .period
-  unfolding responseWith
-  counted-response u = rw (lt-ltb 0 (held v l) u) refl
-
-  uncounted-response : held v l ≤ 0 → responseWith v k l ≡ 0
-  unfolding responseWith
-  uncounted-response u = rw (le-ltb 0 (held v l) u) refl
 
 module _ (v : View) (sv : Sound-view v) {k : ℕ} (ct : Counted v k) where
   -- A job's response is above 0.

@@ -1,11 +1,10 @@
 -- What the code's own structs hold, in the words of steps 9 to 11: the view that slices and numbers make up, the best of a
 -- range, a job, and the worst of the jobs. Assumes nothing.
-use Prim.Native.Nat.{ℕ, _+_, _≤_, _<_}
-use mathlib.Core.Path.{_≡_}
+use Prim.Native.Nat.{ℕ, _≤_}
 use mathlib.Core.List.{List}
 use Rattle.lists.specs.Range.{largestTo}
 use Rattle.least.specs.Demand.{total}
-use Rattle.least.specs.Search.{Comes-down, IsLeast}
+use Rattle.least.specs.Search.{Comes-down}
 use Rattle.least.specs.After.{afterwards, Waits}
 use Rattle.global.specs.declared.responses.Own.{Own}
 use Rattle.global.specs.declared.responses.Best.{Best}
@@ -46,8 +45,3 @@ pub record Budget-over (periods costs : List ℕ) (n end held : ℕ) : Type 0 wh
   pub from : 1 ≤ end
   pub waits : Waits periods costs n end held
   pub down : Comes-down (total periods costs n (afterwards periods costs n end held))
-
--- r is the response where something is held, counted from the release, and 0 else.
-pub record Responded (periods costs : List ℕ) (n end held release r : ℕ) : Type 0 where
-  pub counted : 0 < held → IsLeast (total periods costs n (afterwards periods costs n end held)) (r + release)
-  pub uncounted : held ≤ 0 → r ≡ 0

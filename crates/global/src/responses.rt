@@ -8,9 +8,12 @@ ghost use mathlib.Core.Bool.{cond};
 ghost use Prim.Native.Nat.{_+_, _-_, _*_, _^_, _≤_, _<_};
 ghost use lib.Dec.{ltb};
 ghost use lib.ListN.{length};
+ghost use Rattle.least.specs.Demand.{total};
+ghost use Rattle.least.specs.Search.{IsLeast};
+ghost use Rattle.least.specs.After.{afterwards};
 ghost use Rattle.global.specs.Response.{responseWith};
 ghost use Rattle.global.specs.Ends.{budgetEnd};
-ghost use Rattle.global.specs.Computed.{seenBy, Responded, Budget-over, bestOf, jobOf, worstOf};
+ghost use Rattle.global.specs.Computed.{seenBy, Budget-over, bestOf, jobOf, worstOf};
 ghost use Rattle.global.specs.Sound.{Sound-view, Counted, Jobs, First-end};
 
 // What a subsystem knows of itself: s, P(s), Q(s) and B(s).
@@ -68,21 +71,18 @@ fn worse(worst: Worst, job: Job, k: u32) -> Worst
 }
 
 // The response with one resource of a job that is released at `release` and whose budget ends at `end`: the job ends after
-// `held` ticks more and whatever the first n loads ask for meanwhile. 0 where nothing is held.
+// `held` ticks more and whatever the first n loads ask for meanwhile.
 fn response_with(periods: &[u32], costs: &[u32], n: usize, end: u32, held: u32, release: u32) -> u32
-    requires { ⌜ (0 < held → Budget-over (now periods) (now costs) n end held) ⌝ }
+    requires { ⌜ Budget-over (now periods) (now costs) n end held ⌝ }
     requires { ⌜ release ≤ end ⌝ }
-    ensures { λ r. ⌜ Responded (now (periods .entry)) (now (costs .entry)) n end held release r ⌝ }
+    ensures { λ r. ⌜ IsLeast (total (now (periods .entry)) (now (costs .entry)) n (afterwards (now (periods .entry)) (now (costs .entry)) n end held)) (r + release) ⌝ }
 {
-    if held == 0 {
-        return 0;
-    }
     let mut ends = [0u32; Table::MOST];
     ends_at(periods, n, end, &mut ends);
     least_within(periods, costs, n, &mut ends, end, held) - release
 }
 
-// The largest response of job k, whose budget ends at `end`, over the resources, and the lowest of these that has it.
+// The largest response of job k, whose budget ends at `end`, over the resources that are held, and the lowest of these that has it.
 fn best_response(
     periods: &[u32],
     costs: &[u32],
@@ -100,8 +100,13 @@ fn best_response(
     let mut best = Best { value: 0, at: 0 };
     let mut l: usize = 0;
     while l < holdings.len() {
+        let held = holdings[l];
+        if held == 0 {
+            l += 1;
+            continue;
+        }
         let release = k * own.period;
-        let response = response_with(periods, costs, ceilings[l], end, holdings[l], release);
+        let response = response_with(periods, costs, ceilings[l], end, held, release);
         best = better(best, response, l);
         l += 1;
     }
