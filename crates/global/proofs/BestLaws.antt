@@ -40,7 +40,7 @@ best-step f n {b} {r} {x} e q h =
 
 -- A value of 0 changes nothing.
 pub best-stays : (f : ℕ → ℕ) (n : ℕ) {b : Best} → b ≡ bestOf f n → f n ≡ 0 → b ≡ bestOf f (n + 1)
-best-stays f n {b} e q = best-step f n {x = 0} e (sym q) (rw (le-ltb 0 (b .value) (omega arith)) refl)
+best-stays f n {b} e q = best-step f n {x = 0} e (sym q) (rw (le-ltb (b .value) 0 (omega arith)) refl)
 
 module _ (v : View) where
   -- The first job is the worst of itself.

@@ -45,7 +45,7 @@ fn caught_up(end: u32, x: u32, period: u32, cost: u32, bound: u32) -> Caught
     }
     Caught {
         end: next + again * period,
-        x: asked + again * cost,
+        x: reached as u32,
     }
 }
 

@@ -44,6 +44,9 @@ module _ (c : tie.Else3) where
   ends-fit : Entry Before .args .end + Entry Before .args .period + up (Entry Before .args .x + Entry Before .args .cost - (Entry Before .args .end + Entry Before .args .period)) (Entry Before .args .period - Entry Before .args .cost) * Entry Before .args .period < 2 ^ 32
   ends-fit = again-ends _ _ _ _ _ (Entry Before .pre .0 .0) (behind Before) (free Before) (Entry Before .pre .0 .1) (Entry Before .pre .1 .2) (Entry Before .pre .0 .2) within
 
+  reached-is : Before .before .before .wide .result + Before .before .wide2 .result * Before .wide3 .result ≡ Entry Before .args .x + Entry Before .args .cost + up (Entry Before .args .x + Entry Before .args .cost - (Entry Before .args .end + Entry Before .args .period)) (Entry Before .args .period - Entry Before .args .cost) * Entry Before .args .cost
+  reached-is = ap₂ _+_ (Before .before .before .wide .ensures .0) (costs-are Before)
+
   times : (k : ℕ) → Before .before .before .before .round-up .result * k ≡ up (Entry Before .args .x + Entry Before .args .cost - (Entry Before .args .end + Entry Before .args .period)) (Entry Before .args .period - Entry Before .args .cost) * k
   times k = ap (λ (q : ℕ). q * k) (again-is Before)
 
@@ -111,17 +114,13 @@ mul-t11 c = record { fits = omega (arith, times c (Entry (Before c) .args .perio
 add-t12 : tie.Need-add-t12
 add-t12 c = record { fits = omega (arith, times c (Entry (Before c) .args .period), ends-fit c) }
 
--- src/after.rt:44:20
-mul-t17 : tie.Need-mul-t17
-mul-t17 c = record { fits = omega (arith, times c (Entry (Before c) .args .cost), within c) }
-
 -- src/after.rt:44:12
-add-t18 : tie.Need-add-t18
-add-t18 c = record { fits = omega (arith, times c (Entry (Before c) .args .cost), within c) }
+cast-t17 : tie.Need-cast-t17
+cast-t17 c = omega (arith, reached-is c, within c)
 
 -- src/after.rt:24:1
 returns-4 : tie.Need-returns-4
-returns-4 c = rw (again-is (Before c)) (as-often _ _ _ _ _ (Entry (Before c) .pre .0 .0) (behind (Before c)) (free (Before c)) (within c))
+returns-4 c = rw (again-is (Before c), reached-is c) (as-often _ _ _ _ _ (Entry (Before c) .pre .0 .0) (behind (Before c)) (free (Before c)) (within c))
 
 pub caught-up-spec : {M : Type 1} → statement M
 caught-up-spec =
@@ -143,6 +142,5 @@ caught-up-spec =
     returns-3
     mul-t11
     add-t12
-    mul-t17
-    add-t18
+    cast-t17
     returns-4)
