@@ -1,7 +1,7 @@
 -- Laws of budget ends (step 9): every job of an active period has one, none is above the active period, each lies after the
 -- job's release, a job's search may start at what it waits for besides higher subsystems, and the next job's where this one ended,
 -- and Q + X further on. Assumes nothing.
-use Prim.Native.Nat.{ℕ, suc, _+_, _*_, _≤_, _<_}
+use Prim.Native.Nat.{ℕ, suc, _+_, _-_, _*_, _≤_, _<_}
 use native.Mathlib.Nat.{mul-le-mul-right, suc-mul, mul-le-mul-left}
 use native.Mathlib.Numerals.{add-one}
 use native.Mathlib.Omega.{arith}
@@ -118,6 +118,15 @@ module _ (v : View) (sv : Sound-view v) where
         stands-warm (budgetTotal v k) (budgetTotal v (k + 1)) (cost v) (least-stands (budgetTotal v k) budget-end-is-least)
         (λ y h. omega (arith, budget-total v k y, budget-total v (k + 1) y, ahead-next v k))
         (λ y h. omega (arith, budget-total v (k + 1) y, ahead-next v k, budget-end-parts, demand-mono (v .periods) (v .costs) (v .place) (higher-loads v sv) h))
+
+    -- After F(k), X ticks of the active period are left.
+    pub last-leaves : budgetEnd v k + cost v ≤ ct .active + v .budget
+    last-leaves =
+        let early : ℕ = ct .active + v .budget - cost v in
+        let room : v .budget ≤ early = omega (arith, jobs-fit, ahead-holds-budget v k) in
+        let no-more : demand (v .periods) (v .costs) (v .place) early ≤ demand (v .periods) (v .costs) (v .place) (ct .active) = demand-mono (v .periods) (v .costs) (v .place) (higher-loads v sv) (omega (arith, budget-at-most v)) in
+        let down : budgetTotal v k early ≤ early = omega (arith, budget-total v k early, jobs-fit) in
+        omega (arith, stands-below (budgetTotal v k) (least-stands (budgetTotal v k) budget-end-is-least) (omega (arith, room, sv .budget-pos)) down, room)
 
     -- Job k ends its budget after its release at k × P.
     pub released-before-end : k * v .period < budgetEnd v k

@@ -9,11 +9,11 @@ use Rattle.global.proofs.ActiveLaws.{active-within, some-job}
 use Rattle.global.proofs.BudgetEndLaws.{ahead-holds-budget, budget-end-parts, budget-end-within, released-before-end}
 
 -- Each number below the number of jobs is a job.
-pub job-counted : (v : View) {n : ℕ} → Jobs v n → (k : ℕ) → k < n → Counted v k
-job-counted v j k h = record { active = j .active; is-active = j .is-active; among = rw (← j .all) h }
+pub job-counted : (v : View) {active n : ℕ} → Jobs v active n → (k : ℕ) → k < n → Counted v k
+job-counted v {active} j k h = record { active = active; is-active = j .is-active; among = rw (← j .all) h }
 
 -- There is a job.
-pub some-jobs : (v : View) → Sound-view v → {n : ℕ} → Jobs v n → 1 ≤ n
+pub some-jobs : (v : View) → Sound-view v → {active n : ℕ} → Jobs v active n → 1 ≤ n
 some-jobs v sv j = rw (j .all) (some-job v sv (j .is-active))
 
 -- A job's release is within the machine's numbers, and its budget before the end of the budget of any job.

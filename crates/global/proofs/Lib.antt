@@ -11,9 +11,9 @@ pub mod JobEndLaws
 pub mod ViewLaws
 pub mod AfterLaws
 pub mod BestLaws
+pub mod JobsLaws
 pub mod SkipLaws
 pub mod ResponseLaws
-pub mod JobsLaws
 pub mod RowLaws
 pub mod LeadingLaws
 pub mod EnteringLaws

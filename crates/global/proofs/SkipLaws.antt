@@ -1,26 +1,29 @@
 -- Laws of the jobs whose end need not be looked for: a job ends Q before the next one's budget does, or earlier, so where that
--- leaves no room for a larger response than the worst so far, the worst so far stays. Assumes nothing.
+-- leaves no room for a larger response than the worst so far, the worst so far stays;
+-- and where no later job has room, it is the worst of all. Assumes nothing.
 use Prim.Native.Nat.{ℕ, zero, suc, _+_, _-_, _*_, _≤_, _<_}
+use native.Mathlib.Nat.{add-zero, add-assoc, add-mul, mul-add, suc-mul, mul-le-mul-right}
 use native.Mathlib.Omega.{arith}
 use native.Mathlib.Numerals.{add-one}
 use mathlib.Core.Path.{_≡_, refl, sym, ap, _∙_}
 use mathlib.Core.Bool.{Bool, true, false, cond}
 use mathlib.Core.Logic.{⊎-elim}
-use borrow.Author.Tests.{lt-ltb, le-ltb, ltb-false}
-use lib.Dec.{ltb}
+use borrow.Author.Tests.{lt-ltb, ltb-false, leb-true}
+use lib.Dec.{leb, ltb}
 use Rattle.lists.specs.Range.{largestTo}
 use Rattle.lists.proofs.Over.{le-or-lt, largestTo-zero, below-largest, largest-at-most, largest-reached}
 use Rattle.global.specs.View.{View, resources, held, overrun, cost}
 use Rattle.global.specs.Ends.{budgetEnd, jobEnd}
 use Rattle.global.specs.Response.{responseWith, jobResponse, response}
-use Rattle.global.specs.Sound.{Sound-view, Counted}
+use Rattle.global.specs.Sound.{Sound-view, Counted, Jobs}
 use Rattle.global.specs.Computed.{jobOf, worstOf}
 use Rattle.global.specs.declared.responses.Job.{Job}
 use Rattle.global.specs.declared.responses.Worst.{Worst}
 use Rattle.global.proofs.ActiveLaws.{budget-at-most}
-use Rattle.global.proofs.BudgetEndLaws.{budget-end-next, released-before-end}
-use Rattle.global.proofs.JobEndLaws.{job-end-before-next, released-before-job-end}
+use Rattle.global.proofs.BudgetEndLaws.{budget-end-next, budget-end-within, last-leaves, released-before-end}
+use Rattle.global.proofs.JobEndLaws.{job-end-within, job-end-before-next, released-before-job-end}
 use Rattle.global.proofs.ResponseLaws.{counted-response, uncounted-response, response-without, response-with}
+use Rattle.global.proofs.JobsLaws.{some-jobs}
 use Rattle.global.proofs.BestLaws.{worst-first, worst-step, worst-stays}
 
 module _ (v : View) (sv : Sound-view v) {k : ℕ} (ct : Counted v k) where
@@ -47,6 +50,29 @@ module _ (v : View) (sv : Sound-view v) {k : ℕ} (ct : Counted v k) where
                 counted-response v k i counts,
                 released-before-job-end v sv ct i within counts,
               )
+
+  -- The job ends within the active period.
+  pub response-within : jobResponse v k + k * v .period ≤ ct .active
+  response-within = ⊎-elim without with-some (le-or-lt (overrun v) 0)
+    where
+      without : overrun v ≤ 0 → jobResponse v k + k * v .period ≤ ct .active
+      without h = omega (arith, response-without v k (omega arith), released-before-end v sv ct, budget-end-within v sv ct)
+
+      each : (l : ℕ) → l < resources v → responseWith v k l ≤ ct .active - k * v .period
+      each l within =
+          ⊎-elim (λ (u : held v l ≤ 0). omega (arith, uncounted-response v k l u))
+          (λ (u : 0 < held v l). omega (arith, counted-response v k l u, job-end-within v sv ct l within u))
+          (le-or-lt (held v l) 0)
+
+      with-some : 0 < overrun v → jobResponse v k + k * v .period ≤ ct .active
+      with-some h =
+          omega (
+            arith,
+            response-with v k h,
+            largest-at-most (responseWith v k) (resources v) (ct .active - k * v .period) each,
+            released-before-end v sv ct,
+            budget-end-within v sv ct,
+          )
 
   -- It leaves Q before the end of the next job's budget.
   pub response-before-next : Counted v (k + 1) → jobResponse v k + k * v .period + v .budget ≤ budgetEnd v (k + 1)
@@ -125,3 +151,73 @@ passed-over v sv k ct after w next e f h =
         let none : k ≡ 0 = omega arith in
         let zero-response : w .response ≡ 0 = h .0 ∙ ap (largestTo (jobResponse v)) none ∙ largestTo-zero (jobResponse v) in
         omega (arith, response-above-zero v sv ct)
+
+------------------------------------------------------------------------
+-- The jobs after which no later one can be worse: each leaves Q + X for every job behind it within the active period.
+
+module _ (v : View) (sv : Sound-view v) {active n : ℕ} (jobs-are : Jobs v active n) where
+  abbrev job : (j : ℕ) → j < n → Counted v j
+  job j h = record { active = active; is-active = jobs-are .is-active; among = rw (← jobs-are .all) h }
+
+  -- From F(j) on, X and Q + X for each of the d jobs behind job j are still to come.
+  end-leaves : (d j : ℕ) → j + d + 1 ≡ n → budgetEnd v j + d * cost v + cost v ≤ active + v .budget
+  end-leaves zero j e = omega (arith, last-leaves v sv (job j (omega arith)))
+  end-leaves (suc d) j e =
+      let here = job j (omega arith) in
+      let next = job (j + 1) (omega arith) in
+      omega (arith, end-leaves d (j + 1) (omega arith), budget-end-next v sv here next, suc-mul d (cost v))
+
+  -- So from where job j ends, Q + X for each of them.
+  response-leaves : (d j : ℕ) → j + d + 1 ≡ n → jobResponse v j + j * v .period + d * cost v ≤ active
+  response-leaves zero j e = omega (arith, response-within v sv (job j (omega arith)))
+  response-leaves (suc d) j e =
+      let here = job j (omega arith) in
+      let next = job (j + 1) (omega arith) in
+      omega (arith, response-before-next v sv here next, end-leaves d (j + 1) (omega arith), suc-mul d (cost v))
+
+  -- What the jobs behind job 0 leave is there.
+  pub room-fits : (n - 1) * cost v ≤ active
+  room-fits = omega (arith, response-leaves (n - 1) 0 (omega (arith, some-jobs v sv jobs-are)))
+
+  module _ (k : ℕ) (w : Worst) (settled : active - (n - 1) * cost v ≤ w .response + k * (v .period - cost v)) where
+    -- No job from k on is worse.
+    no-worse : (j : ℕ) → k ≤ j → j < n → jobResponse v j ≤ w .response
+    no-worse j h u =
+        let d : ℕ = n - 1 - j in
+        let period : j * v .period ≡ j * (v .period - cost v) + j * cost v = ap (λ (p : ℕ). j * p) (omega (arith, sv .fits)) ∙ mul-add j (v .period - cost v) (cost v) in
+        let all : (n - 1) * cost v ≡ j * cost v + d * cost v = ap (λ (m : ℕ). m * cost v) (omega arith) ∙ add-mul j d (cost v) in
+        let later : k * (v .period - cost v) ≤ j * (v .period - cost v) = mul-le-mul-right (v .period - cost v) h in
+        omega (arith, response-leaves d j (omega arith), period, all, later, settled)
+
+    -- So the worst so far is the worst of all.
+    stays : (d : ℕ) → k + d ≤ n → 1 ≤ k → WorstTo v k w → WorstTo v (k + d) w
+    stays zero h from g = rw (add-zero k) g
+    stays (suc d) h from g =
+        rw (← add-one d, ← add-assoc k d 1)
+        (worst-to-passed v (k + d) (omega arith) w (stays d (omega arith) from g) (no-worse (k + d) (omega arith) (omega arith)))
+
+    pub settled-worst : k + 1 < n → WorstTo v k w → w ≡ worstOf v n
+    unfolding WorstTo response
+    settled-worst h g =
+        ⊎-elim (λ (z : k ≤ 0). absurd (never z))
+        (λ (from : 0 < k). (rw whole at (stays (n - k) (omega arith) from g)) .1 (omega arith))
+        (le-or-lt k 0)
+      where
+        whole : k + (n - k) ≡ n
+        whole = omega arith
+
+        never : k ≤ 0 → ⊥
+        never z =
+            let none : k ≡ 0 = omega arith in
+            let zero-response : w .response ≡ 0 = g .0 ∙ ap (largestTo (jobResponse v)) none ∙ largestTo-zero (jobResponse v) in
+            omega (arith, response-above-zero v sv (job 0 (omega arith)), no-worse 0 (omega arith) (omega arith))
+
+  -- As the code computes it, with what its own load costs.
+  module _ {c : ℕ} (e : c ≡ cost v) where
+    pub room-there : (n - 1) * c ≤ active
+    room-there = rw e room-fits
+
+    pub settled-as-tested : (k : ℕ) (w : Worst) → leb (active - (n - 1) * c) (w .response + k * (v .period - c)) ≡ true → k + 1 < n → WorstTo v k w → w ≡ worstOf v n
+    settled-as-tested k w t h g =
+        let tested : active - (n - 1) * c ≤ w .response + k * (v .period - c) = leb-true (active - (n - 1) * c) (w .response + k * (v .period - c)) t in
+        settled-worst k w (rw e at tested) h g

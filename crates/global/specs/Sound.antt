@@ -44,8 +44,7 @@ pub record Counted (v : View) (k : ℕ) : Type 0 where
   pub among : k < jobs v active
 
 -- n is the number of jobs of the active period.
-pub record Jobs (v : View) (n : ℕ) : Type 0 where
-  pub active : ℕ
+pub record Jobs (v : View) (active n : ℕ) : Type 0 where
   pub is-active : activePeriod v ≡ some active
   pub all : n ≡ jobs v active
 

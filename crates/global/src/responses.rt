@@ -6,7 +6,7 @@ use table::Table;
 ghost use mathlib.Core.Path.{_≡_};
 ghost use mathlib.Core.Bool.{cond};
 ghost use Prim.Native.Nat.{_+_, _-_, _*_, _^_, _≤_, _<_};
-ghost use lib.Dec.{ltb};
+ghost use lib.Dec.{leb, ltb};
 ghost use lib.ListN.{length};
 ghost use Rattle.least.specs.Demand.{total};
 ghost use Rattle.least.specs.Search.{IsLeast};
@@ -153,9 +153,18 @@ fn may_be_worse(own: Own, worst: Worst, k: u32, next: u32) -> bool
     wide(worst.response) + wide(k * own.period) < wide(next - own.budget)
 }
 
+// Whether no job from k on can respond later than the worst so far: each leaves Q + X for every job behind it within the active
+// period, of which `room` is what the jobs behind job 0 leave, and a period has `free` ticks besides.
+fn is_settled(worst: Worst, room: u32, free: u32, k: u32) -> bool
+    requires { ⌜ k * free < 2 ^ 32 ⌝ }
+    ensures { λ r. ⌜ r ≡ leb room (worst .response + k * free) ⌝ }
+{
+    wide(room) <= wide(worst.response) + wide(k * free)
+}
+
 // The largest response over the n jobs of the active period, the first job that has it, and that job's lowest resource. The
 // first budget end is known; each other is searched from where the last one was found, with Q + X more to wait for. A job's own
-// end is looked for only where the next budget end leaves room for a larger response.
+// end is looked for only where the next budget end leaves room for a larger response, and none where no later job has room.
 pub(crate) fn largest_response(
     periods: &[u32],
     costs: &[u32],
@@ -163,11 +172,12 @@ pub(crate) fn largest_response(
     ceilings: &[usize],
     own: Own,
     n: u32,
+    active: u32,
     first: u32,
     ends: [u32; Table::MOST],
 ) -> Worst
     requires { ⌜ Sound-view (seenBy (now periods) (now costs) (now holdings) (now ceilings) own) ⌝ }
-    requires { ⌜ Jobs (seenBy (now periods) (now costs) (now holdings) (now ceilings) own) n ⌝ }
+    requires { ⌜ Jobs (seenBy (now periods) (now costs) (now holdings) (now ceilings) own) active n ⌝ }
     requires { ⌜ First-end (seenBy (now periods) (now costs) (now holdings) (now ceilings) own) ends first ⌝ }
     ensures { λ r. ⌜ r ≡ worstOf (seenBy (now (periods .entry)) (now (costs .entry)) (now (holdings .entry)) (now (ceilings .entry)) own) n ⌝ }
 {
@@ -181,7 +191,12 @@ pub(crate) fn largest_response(
     let mut reached = ends;
     let mut end = first;
     let mut k: u32 = 0;
+    let free = own.period - cost;
+    let room = active - (n - 1) * cost;
     while k + 1 < n {
+        if is_settled(worst, room, free, k) {
+            return worst;
+        }
         let next = least_within(periods, costs, s, &mut reached, end, cost);
         if may_be_worse(own, worst, k, next) {
             let job = job_response(periods, costs, holdings, ceilings, own, k, end);

@@ -55,7 +55,17 @@ fn active_row(
 {
     let s = own.place;
     let n = round_up(active, own.period);
-    let worst = largest_response(periods, costs, holdings, ceilings, own, n, first, ends);
+    let worst = largest_response(
+        periods,
+        costs,
+        holdings,
+        ceilings,
+        own,
+        n,
+        active,
+        first,
+        ends,
+    );
     Row {
         holding: costs[s] - own.budget,
         failing,

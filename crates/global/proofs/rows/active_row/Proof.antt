@@ -23,7 +23,7 @@ largest-response-requires : tie.Need-largest-response-requires
 unfolding jobs
 largest-response-requires c κs =
     let s = c .before .before .before .before .before in
-    (s .pre .0, (record { active = s .args .active; is-active = s .pre .1 .0; all = c .round-up .ensures }, s .pre .1 .1))
+    (s .pre .0, (record { is-active = s .pre .1 .0; all = c .round-up .ensures }, s .pre .1 .1))
 
 -- src/rows.rt:59:18
 mul-t13 : tie.Need-mul-t13
