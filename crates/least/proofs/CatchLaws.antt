@@ -9,7 +9,7 @@ use lib.Dec.{lit<}
 use Rattle.lists.proofs.Over.{le-or-lt}
 use Rattle.least.specs.Up.{up}
 use Rattle.least.specs.Search.{reach}
-use Rattle.least.specs.After.{Ahead, CaughtUp}
+use Rattle.least.specs.After.{Ahead, Within, CaughtUp}
 use Rattle.least.specs.declared.after.Caught.{Caught}
 use Rattle.least.proofs.Up.{up-holds, up-is-tight, up-is-least, up-at-most}
 
@@ -32,13 +32,12 @@ module _ (end x period cost bound : ℕ) (late : end < x) where
       }
 
   -- Without a free tick it is never ahead.
-  pub never : bound < reach → cost ≤ period → period ≤ cost → CaughtUp end x period cost bound (record { end = end; x = reach })
-  never small fits full =
+  pub never : Within bound end x period cost → cost ≤ period → period ≤ cost → CaughtUp end x period cost bound (record { end = end; x = reach })
+  never within fits full =
       let same : period ≡ cost = omega arith in
-      record {
-        least = λ b. absurd (omega arith);
-        too-much = λ b p a. absurd (omega (arith, a, ap (λ (k : ℕ). p * k) same));
-      }
+      let behind : (p : ℕ) → Ahead end x period cost p → ⊥ = λ p a. omega (arith, a, ap (λ (k : ℕ). p * k) same) in
+      let small : bound < reach = ⊎-elim (λ (u : bound < reach). u) (λ u. absurd (behind (u .0) (u .1))) within in
+      record { least = λ b. absurd (omega arith); too-much = λ b p a. absurd (behind p a) }
 
   module _ (behind : end + period < x + cost) (free : cost < period) where
     abbrev again : ℕ
@@ -61,6 +60,22 @@ module _ (end x period cost bound : ℕ) (late : end < x) where
         let least : again ≤ q = up-is-least (x + cost - (end + period)) (period - cost) q (omega arith) (omega (arith, a, costs, ends, by-parts q)) in
         omega arith
 
+    -- Where it catches up within reach, this does.
+    least-asked : (p : ℕ) → Ahead end x period cost p → x + cost + again * cost ≤ x + p * cost
+    least-asked p a =
+        let fewer : (again + 1) * cost ≤ p * cost = mul-le-mul-right cost (again-least p a) in
+        let next : again + 1 ≡ suc again = omega arith in
+        let more : (again + 1) * cost ≡ again * cost + cost = ap (λ (j : ℕ). j * cost) next ∙ suc-mul again cost in
+        omega (arith, fewer, more)
+
+    pub in-reach : Within bound end x period cost → x + cost + again * cost ≤ bound → x + cost + again * cost < reach
+    in-reach within h =
+        ⊎-elim (λ (u : bound < reach). omega arith) (λ u. omega (arith, least-asked (u .0) (u .1), u .2)) within
+
+    bound-small : Within bound end x period cost → bound < x + cost + again * cost → bound < reach
+    bound-small within h =
+        ⊎-elim (λ (u : bound < reach). u) (λ u. omega (arith, least-asked (u .0) (u .1), u .2)) within
+
     -- Sums and products fit.
     pub again-small : x < 2 ^ 25 → period < 2 ^ 20 → again < 2 ^ 26
     again-small u v = omega (arith, up-at-most (x + cost - (end + period)) (period - cost) (omega arith))
@@ -69,8 +84,8 @@ module _ (end x period cost bound : ℕ) (late : end < x) where
     again-costs u v =
         lt-of-le-of-lt (mul-le-mul {n₂ = 67108863} {m₂ = 1048575} (omega (arith, again-small u v)) (omega arith)) (lit< {m = 67108863 * 1048575} {n = 2 ^ 46} tt)
 
-    pub again-ends : x < 2 ^ 25 → period < 2 ^ 20 → bound < reach → x + cost + again * cost ≤ bound → end + period + again * period < 2 ^ 32
-    again-ends u v w h =
+    pub again-ends : x < 2 ^ 25 → period < 2 ^ 20 → x + cost + again * cost < reach → end + period + again * period < 2 ^ 32
+    again-ends u v h =
         omega (arith, by-parts again, up-is-tight (x + cost - (end + period)) (period - cost) (omega arith))
 
     -- It asks as often as it takes.
@@ -85,8 +100,9 @@ module _ (end x period cost bound : ℕ) (late : end < x) where
         more k = ap (λ (j : ℕ). j * k) (omega arith) ∙ suc-mul again k
 
     -- Where that is too much, no number of times is within the bound.
-    pub out-of-bound : bound < reach → bound < x + cost + again * cost → CaughtUp end x period cost bound (record { end = end; x = reach })
-    out-of-bound small h =
+    pub out-of-bound : Within bound end x period cost → bound < x + cost + again * cost → CaughtUp end x period cost bound (record { end = end; x = reach })
+    out-of-bound within h =
+        let small = bound-small within h in
         record {
           least = λ b. absurd (omega arith);
           too-much =

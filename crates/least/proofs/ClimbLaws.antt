@@ -18,7 +18,7 @@ use Rattle.lists.proofs.Over.{le-or-lt, sumTo-zero, sumTo-suc, sumTo-ext, sumTo
 use Rattle.least.specs.Up.{up}
 use Rattle.least.specs.Demand.{loadIn, demand, total}
 use Rattle.least.specs.Search.{Comes-down, IsLeast, reach}
-use Rattle.least.specs.After.{Fit, Periods, EndsAt, afterwards, After, Found, Ahead, CaughtUp}
+use Rattle.least.specs.After.{Fit, Periods, EndsAt, afterwards, After, Bounded, Found, Ahead, Within, CaughtUp}
 use Rattle.least.specs.declared.after.Caught.{Caught}
 use Rattle.least.proofs.Up.{up-holds, up-is-least, up-mono, up-zero}
 use Rattle.least.proofs.Demand.{total-mono, loads-fewer}
@@ -123,13 +123,13 @@ module _ (periods costs ends : List ℕ) (n y more : ℕ) (a : After periods cos
       one : y + more ≡ 1 → 1 ≤ total periods costs n (afterwards periods costs n y more) 1
       one e = omega (arith, a .waits .stands .rises, ap (total periods costs n (afterwards periods costs n y more)) e)
 
-  -- Where the total comes down within reach, what a search up to there finds is within it.
-  pub within-reach : Comes-down (total periods costs n (afterwards periods costs n y more)) → {after : List ℕ} {r : ℕ} → Found periods costs after n (afterwards periods costs n y more) (reach - 1) r → r ≤ reach - 1
-  within-reach d {after} {r} g =
+  -- Where the total comes down within reach, what a search up to there or further finds is within its bound.
+  pub within-bound : Comes-down (total periods costs n (afterwards periods costs n y more)) → {after : List ℕ} {bound r : ℕ} → reach - 1 ≤ bound → Found periods costs after n (afterwards periods costs n y more) bound r → r ≤ bound
+  within-bound d {after} {bound} {r} u g =
       let (z, below, least) = least-exists (total periods costs n (afterwards periods costs n y more)) (total-mono periods costs n (afterwards periods costs n y more) (a .waits .fit .loads)) total-starts (d .top) (d .from) (d .down) in
-      ⊎-elim (λ (h : r ≤ reach - 1). h)
-      (λ (h : reach - 1 < r). absurd (omega (arith, g .beyond h z (least .from) (least .solution), below, d .within)))
-      (le-or-lt r (reach - 1))
+      ⊎-elim (λ (h : r ≤ bound). h)
+      (λ (h : bound < r). absurd (omega (arith, g .beyond h z (least .from) (least .solution), below, d .within)))
+      (le-or-lt r bound)
 
 module _ (periods costs ends : List ℕ) (n constant x : ℕ) (f : Fit periods costs n) (c : Climbing periods costs ends n constant x) where
   asked-by : (z : ℕ) → sumTo (λ (t : ℕ). up z (getD periods t 0) * getD costs t 0) n + constant ≡ total periods costs n constant z
@@ -147,6 +147,13 @@ module _ (periods costs ends : List ℕ) (n constant x : ℕ) (f : Fit periods c
         asked-by z,
         e,
       )
+
+  -- It is within reach where it is within the bound.
+  pub climb-small : (bound : ℕ) → 1 ≤ total periods costs n constant 1 → Bounded (total periods costs n constant) bound → x ≤ bound → x < reach
+  climb-small bound one (inl h) u = omega arith
+  climb-small bound one (inr d) u =
+      let (z, below, least) = least-exists (total periods costs n constant) (total-mono periods costs n constant (f .loads)) one (d .top) (d .from) (d .down) in
+      omega (arith, at-most-solution z (least .from) (least .solution), below, d .within)
 
   module _ (t : ℕ) (u : t < n) where
     -- With q more of load t.
@@ -200,6 +207,13 @@ module _ (periods costs ends : List ℕ) (n constant x : ℕ) (f : Fit periods c
             ap (λ (k : ℕ). k * getD periods t 0) all-asked,
             add-mul (c .count t) left (getD periods t 0),
           )
+
+    -- Where a solution is within reach, so is what there is to do once load t has caught up.
+    pub caught-within : (bound : ℕ) → 1 ≤ total periods costs n constant 1 → Bounded (total periods costs n constant) bound → Within bound (getD ends t 0) x (getD periods t 0) (getD costs t 0)
+    caught-within bound one (inl h) = inl h
+    caught-within bound one (inr d) =
+        let (z, below, least) = least-exists (total periods costs n constant) (total-mono periods costs n constant (f .loads)) one (d .top) (d .from) (d .down) in
+        inr (left z (least .from) (least .solution), left-ahead z (least .from) (least .solution), omega (arith, left-within z (least .from) (least .solution), below, d .within))
 
     module _ (bound : ℕ) (r : Caught) (g : CaughtUp (getD ends t 0) x (getD periods t 0) (getD costs t 0) bound r) where
       -- Where catching up is too much, every solution is.

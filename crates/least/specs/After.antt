@@ -2,11 +2,12 @@
 -- and what the search finds. Assumes nothing.
 use Prim.Native.Nat.{ℕ, _+_, _-_, _*_, _^_, _≤_, _<_}
 use mathlib.Core.Path.{_≡_}
+use mathlib.Core.Logic.{_⊎_}
 use mathlib.Core.List.{List}
 use lib.ListN.{length, getD}
 use Rattle.least.specs.Up.{up}
 use Rattle.least.specs.Demand.{demand, total}
-use Rattle.least.specs.Search.{Loads, Stands, IsLeast}
+use Rattle.least.specs.Search.{Loads, Stands, Comes-down, IsLeast, reach}
 use Rattle.least.specs.declared.after.Caught.{Caught}
 
 -- Loads that ask for something and for no more than their period, which is below 2 ^ 20.
@@ -50,6 +51,10 @@ pub record After (periods costs ends : List ℕ) (n y more : ℕ) : Type 0 where
   pub with-end : n ≤ length ends
   pub ends-at : EndsAt periods ends n y
 
+-- The bound of a search is within reach, or a solution is.
+abbrev pub Bounded : (ℕ → ℕ) → ℕ → Type 0
+Bounded f bound = (bound < reach) ⊎ Comes-down f
+
 -- What it finds: the least solution where that is at most the bound, with the ends of the periods begun by then; else no solution
 -- is at or below the bound.
 pub record Found (periods costs ends : List ℕ) (n constant bound r : ℕ) : Type 0 where
@@ -61,6 +66,10 @@ pub record Found (periods costs ends : List ℕ) (n constant bound r : ℕ) : Ty
 -- after what there is then to do.
 abbrev pub Ahead : (end x period cost q : ℕ) → Type 0
 Ahead end x period cost q = x + q * cost ≤ end + q * period
+
+-- The bound is within reach, or what there is to do is once the load has caught up.
+abbrev pub Within : (bound end x period cost : ℕ) → Type 0
+Within bound end x period cost = (bound < reach) ⊎ ((p : ℕ) × Ahead end x period cost p × (x + p * cost < reach))
 
 -- It asks as often as it takes, where that leaves no more to do than the bound; else it would be too much.
 pub record CaughtUp (end x period cost bound : ℕ) (r : Caught) : Type 0 where

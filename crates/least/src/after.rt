@@ -9,7 +9,7 @@ ghost use Prim.Native.Nat.{_^_, _≤_, _<_};
 ghost use lib.ListN.{length};
 ghost use Rattle.least.specs.Demand.{total};
 ghost use Rattle.least.specs.Search.{Comes-down, IsLeast, reach};
-ghost use Rattle.least.specs.After.{Periods, EndsAt, slots, afterwards, After, Found, CaughtUp};
+ghost use Rattle.least.specs.After.{Periods, EndsAt, slots, afterwards, After, Bounded, Found, Within, CaughtUp};
 
 // How many loads a search may have.
 pub const SLOTS: usize = 8;
@@ -22,8 +22,8 @@ pub struct Caught {
 
 // A load whose last period has ended before x asks again until it is ahead: most often once, else as often as the ticks that its
 // periods leave free make up for what it is behind. A load that leaves none free never is.
-fn caught_up(end: u32, x: u32, period: u32, cost: u32, bound: u32) -> Caught
-    requires { ⌜ (end < x) × (x < 2 ^ 25) × (bound < reach) ⌝ }
+fn caught_up(end: u32, x: u32, period: u32, cost: u32, bound: u64) -> Caught
+    requires { ⌜ (end < x) × (x < 2 ^ 25) × Within bound end x period cost ⌝ }
     requires { ⌜ (1 ≤ cost) × (cost ≤ period) × (period < 2 ^ 20) ⌝ }
     ensures { λ r. ⌜ CaughtUp end x period cost bound r ⌝ }
 {
@@ -40,7 +40,7 @@ fn caught_up(end: u32, x: u32, period: u32, cost: u32, bound: u32) -> Caught
     }
     let again = round_up(asked - next, period - cost);
     let reached = wide(asked) + wide(again) * wide(cost);
-    if wide(bound) < reached {
+    if bound < reached {
         return Caught { end, x: REACH };
     }
     Caught {
@@ -62,20 +62,20 @@ pub fn ends_at(periods: &[u32], n: usize, y: u32, ends: &mut [u32; SLOTS])
     }
 }
 
-// The least solution after y ticks, with `more` ticks to do besides the first n loads, where it is at most the bound; else
-// something above the bound. `ends` holds the ends of the periods begun by y, and then of those begun by the solution. Loads from
+// The search: the least solution after y ticks, with `more` ticks to do besides the first n loads, where it is at most the bound; else
+// something above the bound. The bound is within reach, or a solution is, and then any bound will do. `ends` holds the ends of the periods begun by y, and then of those begun by the solution. Loads from
 // `stop` on are ahead of x, and so are those from `from` up to t: a turn that has changed nothing before `stop` is the last.
-pub fn least_after(
+fn climb(
     periods: &[u32],
     costs: &[u32],
     n: usize,
     ends: &mut [u32; SLOTS],
     y: u32,
     more: u32,
-    bound: u32,
+    bound: u64,
 ) -> u32
     requires { ⌜ After (now periods) (now costs) (now ends) n y more ⌝ }
-    requires { ⌜ bound < reach ⌝ }
+    requires { ⌜ Bounded (total (now periods) (now costs) n (afterwards (now periods) (now costs) n y more)) bound ⌝ }
     ensures { λ r. ⌜ Found (now (periods .entry)) (now (costs .entry)) (now (ends .exit)) n (afterwards (now (periods .entry)) (now (costs .entry)) n y more) bound r ⌝ }
     ensures { λ r. ⌜ length (now (ends .exit)) ≡ length (now (ends .entry)) ⌝ }
 {
@@ -87,7 +87,7 @@ pub fn least_after(
         while t < stop {
             if ends[t] < x {
                 let caught = caught_up(ends[t], x, periods[t], costs[t], bound);
-                if bound < caught.x {
+                if bound < wide(caught.x) {
                     return caught.x;
                 }
                 ends[t] = caught.end;
@@ -104,7 +104,25 @@ pub fn least_after(
     }
 }
 
-// The same where the total is known to come down within reach: there is a least solution then.
+// The least solution after y ticks where it is at most the bound; else something above the bound.
+pub fn least_after(
+    periods: &[u32],
+    costs: &[u32],
+    n: usize,
+    ends: &mut [u32; SLOTS],
+    y: u32,
+    more: u32,
+    bound: u32,
+) -> u32
+    requires { ⌜ After (now periods) (now costs) (now ends) n y more ⌝ }
+    requires { ⌜ bound < reach ⌝ }
+    ensures { λ r. ⌜ Found (now (periods .entry)) (now (costs .entry)) (now (ends .exit)) n (afterwards (now (periods .entry)) (now (costs .entry)) n y more) bound r ⌝ }
+    ensures { λ r. ⌜ length (now (ends .exit)) ≡ length (now (ends .entry)) ⌝ }
+{
+    climb(periods, costs, n, ends, y, more, wide(bound))
+}
+
+// The same where the total is known to come down within reach: there is a least solution then, and nothing is compared with a bound.
 pub fn least_within(
     periods: &[u32],
     costs: &[u32],
@@ -118,5 +136,5 @@ pub fn least_within(
     ensures { λ r. ⌜ IsLeast (total (now (periods .entry)) (now (costs .entry)) n (afterwards (now (periods .entry)) (now (costs .entry)) n y more)) r ⌝ }
     ensures { λ r. ⌜ EndsAt (now (periods .entry)) (now (ends .exit)) n r × (length (now (ends .exit)) ≡ length (now (ends .entry))) ⌝ }
 {
-    least_after(periods, costs, n, ends, y, more, REACH - 1)
+    climb(periods, costs, n, ends, y, more, u64::MAX)
 }

@@ -5,7 +5,8 @@ use borrow.Author.Needs.{needs}
 use mathlib.Core.Path.{_≡_, ap, ap₂, _∙_}
 use Prim.Native.Nat.{ℕ, _+_, _-_, _*_, _^_, _<_, _≤_}
 use Rattle.least.specs.Up.{up}
-use Rattle.least.proofs.CatchLaws.{once, never, again-small, again-costs, again-ends, as-often, out-of-bound}
+use Rattle.least.specs.Search.{reach}
+use Rattle.least.proofs.CatchLaws.{once, never, again-small, again-costs, in-reach, again-ends, as-often, out-of-bound}
 use Rattle.least.proofs.after.caught_up.Statement.{statement}
 use Rattle.least.proofs.after.caught_up.Tie as tie
 use Rattle.least.proofs.after.caught_up.Reads as reads
@@ -36,13 +37,16 @@ module _ (c : tie.After-wide3) where
 -- Where that is within the bound.
 module _ (c : tie.Else3) where
   abbrev Before : tie.After-wide3
-  Before = c .before .before
+  Before = c .before
 
   within : Entry Before .args .x + Entry Before .args .cost + up (Entry Before .args .x + Entry Before .args .cost - (Entry Before .args .end + Entry Before .args .period)) (Entry Before .args .period - Entry Before .args .cost) * Entry Before .args .cost ≤ Entry Before .args .bound
-  within = omega (arith, c .if3 .left, c .before .wide4 .ensures .0, costs-are Before, Before .before .before .wide .ensures .0)
+  within = omega (arith, c .if3 .left, costs-are Before, Before .before .before .wide .ensures .0)
+
+  reachable : Entry Before .args .x + Entry Before .args .cost + up (Entry Before .args .x + Entry Before .args .cost - (Entry Before .args .end + Entry Before .args .period)) (Entry Before .args .period - Entry Before .args .cost) * Entry Before .args .cost < reach
+  reachable = in-reach _ _ _ _ _ (Entry Before .pre .0 .0) (behind Before) (free Before) (Entry Before .pre .0 .2) within
 
   ends-fit : Entry Before .args .end + Entry Before .args .period + up (Entry Before .args .x + Entry Before .args .cost - (Entry Before .args .end + Entry Before .args .period)) (Entry Before .args .period - Entry Before .args .cost) * Entry Before .args .period < 2 ^ 32
-  ends-fit = again-ends _ _ _ _ _ (Entry Before .pre .0 .0) (behind Before) (free Before) (Entry Before .pre .0 .1) (Entry Before .pre .1 .2) (Entry Before .pre .0 .2) within
+  ends-fit = again-ends _ _ _ _ (Entry Before .args .bound) (Entry Before .pre .0 .0) (behind Before) (free Before) (Entry Before .pre .0 .1) (Entry Before .pre .1 .2) reachable
 
   reached-is : Before .before .before .wide .result + Before .before .wide2 .result * Before .wide3 .result ≡ Entry Before .args .x + Entry Before .args .cost + up (Entry Before .args .x + Entry Before .args .cost - (Entry Before .args .end + Entry Before .args .period)) (Entry Before .args .period - Entry Before .args .cost) * Entry Before .args .cost
   reached-is = ap₂ _+_ (Before .before .before .wide .ensures .0) (costs-are Before)
@@ -98,13 +102,9 @@ mul-reached c = record { fits = omega (arith, costs-are c, costs-small c) }
 add-reached : tie.Need-add-reached
 add-reached c = record { fits = omega (arith, costs-are c, costs-small c, c .before .before .wide .ensures .1) }
 
--- src/after.rt:39:8
-wide-requires-4 : tie.Need-wide-requires-4
-wide-requires-4 c κs = search needs
-
 -- src/after.rt:40:9
 returns-3 : tie.Need-returns-3
-returns-3 c = out-of-bound _ _ _ _ _ (Entry (c .before .before) .pre .0 .0) (behind (c .before .before)) (free (c .before .before)) (Entry (c .before .before) .pre .0 .2) (omega (arith, c .if3 .taken, c .before .wide4 .ensures .0, costs-are (c .before .before), c .before .before .before .before .wide .ensures .0))
+returns-3 c = out-of-bound _ _ _ _ _ (Entry (c .before) .pre .0 .0) (behind (c .before)) (free (c .before)) (Entry (c .before) .pre .0 .2) (omega (arith, c .if3 .taken, costs-are (c .before), c .before .before .before .wide .ensures .0))
 
 -- src/after.rt:43:21
 mul-t11 : tie.Need-mul-t11
@@ -116,7 +116,7 @@ add-t12 c = record { fits = omega (arith, times c (Entry (Before c) .args .perio
 
 -- src/after.rt:44:12
 cast-t17 : tie.Need-cast-t17
-cast-t17 c = omega (arith, reached-is c, within c)
+cast-t17 c = omega (arith, reached-is c, reachable c)
 
 -- src/after.rt:24:1
 returns-4 : tie.Need-returns-4
@@ -138,7 +138,6 @@ caught-up-spec =
     wide-requires-3
     mul-reached
     add-reached
-    wide-requires-4
     returns-3
     mul-t11
     add-t12
