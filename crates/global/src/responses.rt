@@ -1,5 +1,4 @@
 // Budget ends, job ends and responses of one subsystem, over every job of its active period.
-use least::ends_at;
 use least::least_within;
 use numbers::wide;
 use table::Table;
@@ -10,7 +9,8 @@ ghost use lib.Dec.{leb, ltb};
 ghost use lib.ListN.{length};
 ghost use Rattle.least.specs.Demand.{total};
 ghost use Rattle.least.specs.Search.{IsLeast};
-ghost use Rattle.least.specs.After.{afterwards};
+ghost use Rattle.least.specs.After.{EndsAt, afterwards};
+ghost use Rattle.table.specs.Limits.{most};
 ghost use Rattle.global.specs.Response.{responseWith};
 ghost use Rattle.global.specs.Ends.{budgetEnd};
 ghost use Rattle.global.specs.Computed.{seenBy, Budget-over, bestOf, jobOf, worstOf};
@@ -72,14 +72,22 @@ fn worse(worst: Worst, job: Job, k: u32) -> Worst
 
 // The response with one resource of a job that is released at `release` and whose budget ends at `end`: the job ends after
 // `held` ticks more and whatever the first n loads ask for meanwhile.
-fn response_with(periods: &[u32], costs: &[u32], n: usize, end: u32, held: u32, release: u32) -> u32
+fn response_with(
+    periods: &[u32],
+    costs: &[u32],
+    n: usize,
+    ends: [u32; Table::MOST],
+    end: u32,
+    held: u32,
+    release: u32,
+) -> u32
+    requires { ⌜ EndsAt (now periods) ends n end × (most ≤ length ends) ⌝ }
     requires { ⌜ Budget-over (now periods) (now costs) n end held ⌝ }
     requires { ⌜ release ≤ end ⌝ }
     ensures { λ r. ⌜ IsLeast (total (now (periods .entry)) (now (costs .entry)) n (afterwards (now (periods .entry)) (now (costs .entry)) n end held)) (r + release) ⌝ }
 {
-    let mut ends = [0u32; Table::MOST];
-    ends_at(periods, n, end, &mut ends);
-    least_within(periods, costs, n, &mut ends, end, held) - release
+    let mut reached = ends;
+    least_within(periods, costs, n, &mut reached, end, held) - release
 }
 
 // The largest response of job k, whose budget ends at `end`, over the resources that are held, and the lowest of these that has it.
@@ -91,10 +99,12 @@ fn best_response(
     own: Own,
     k: u32,
     end: u32,
+    ends: [u32; Table::MOST],
 ) -> Best
     requires { ⌜ Sound-view (seenBy (now periods) (now costs) (now holdings) (now ceilings) own) ⌝ }
     requires { ⌜ Counted (seenBy (now periods) (now costs) (now holdings) (now ceilings) own) k ⌝ }
     requires { ⌜ end ≡ budgetEnd (seenBy (now periods) (now costs) (now holdings) (now ceilings) own) k ⌝ }
+    requires { ⌜ EndsAt (now periods) ends (own .place) end × (most ≤ length ends) ⌝ }
     ensures { λ r. ⌜ r ≡ bestOf (responseWith (seenBy (now (periods .entry)) (now (costs .entry)) (now (holdings .entry)) (now (ceilings .entry)) own) k) (length (now (holdings .entry))) ⌝ }
 {
     let mut best = Best { value: 0, at: 0 };
@@ -106,7 +116,7 @@ fn best_response(
             continue;
         }
         let release = k * own.period;
-        let response = response_with(periods, costs, ceilings[l], end, held, release);
+        let response = response_with(periods, costs, ceilings[l], ends, end, held, release);
         best = better(best, response, l);
         l += 1;
     }
@@ -122,10 +132,12 @@ fn job_response(
     own: Own,
     k: u32,
     end: u32,
+    ends: [u32; Table::MOST],
 ) -> Job
     requires { ⌜ Sound-view (seenBy (now periods) (now costs) (now holdings) (now ceilings) own) ⌝ }
     requires { ⌜ Counted (seenBy (now periods) (now costs) (now holdings) (now ceilings) own) k ⌝ }
     requires { ⌜ end ≡ budgetEnd (seenBy (now periods) (now costs) (now holdings) (now ceilings) own) k ⌝ }
+    requires { ⌜ EndsAt (now periods) ends (own .place) end × (most ≤ length ends) ⌝ }
     ensures { λ r. ⌜ r ≡ jobOf (seenBy (now (periods .entry)) (now (costs .entry)) (now (holdings .entry)) (now (ceilings .entry)) own) k ⌝ }
 {
     let s = own.place;
@@ -136,7 +148,7 @@ fn job_response(
             resource: 0,
         };
     }
-    let best = best_response(periods, costs, holdings, ceilings, own, k, end);
+    let best = best_response(periods, costs, holdings, ceilings, own, k, end, ends);
     Job {
         end,
         response: best.value,
@@ -197,14 +209,15 @@ pub(crate) fn largest_response(
         if is_settled(worst, room, free, k) {
             return worst;
         }
+        let before = reached;
         let next = least_within(periods, costs, s, &mut reached, end, cost);
         if may_be_worse(own, worst, k, next) {
-            let job = job_response(periods, costs, holdings, ceilings, own, k, end);
+            let job = job_response(periods, costs, holdings, ceilings, own, k, end, before);
             worst = worse(worst, job, k);
         }
         end = next;
         k += 1;
     }
-    let last = job_response(periods, costs, holdings, ceilings, own, k, end);
+    let last = job_response(periods, costs, holdings, ceilings, own, k, end, reached);
     worse(worst, last, k)
 }

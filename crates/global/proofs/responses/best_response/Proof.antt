@@ -24,10 +24,10 @@ use Rattle.global.proofs.responses.better.Reads as better-reads
 use Rattle.global.proofs.responses.response_with.Reads as response-with-reads
 
 abbrev Inv-loop : tie.InvT-loop
-Inv-loop periods costs holdings ceilings own k end best₀ l₀ best l = (l ≤ length holdings) × (best ≡ bestOf (responseWith (seenBy periods costs holdings ceilings own) k) l)
+Inv-loop periods costs holdings ceilings own k end ends best₀ l₀ best l = (l ≤ length holdings) × (best ≡ bestOf (responseWith (seenBy periods costs holdings ceilings own) k) l)
 
 abbrev μ-loop : tie.MeasureT-loop
-μ-loop periods costs holdings ceilings own k end best₀ l₀ best l = length holdings - l
+μ-loop periods costs holdings ceilings own k end ends best₀ l₀ best l = length holdings - l
 
 -- src/responses.rt:102:5
 loop-holds : tie.Need-loop-holds Inv-loop μ-loop
@@ -78,7 +78,9 @@ response-with-requires c κs =
     let e = c .before .before in
     let i = e .before .before in
     let s = c .before .before .before .before .before .before .before .before .before .before in
-    (after-end _ (s .pre .0) (s .pre .1 .0) (i .before .loop .l) (i .loop-test .taken) (s .pre .1 .1) (pos-of-ne-zero (e .if1 .left)), omega (arith, released-before-end _ (s .pre .0) (s .pre .1 .0), s .pre .1 .1))
+    let counts = pos-of-ne-zero (e .if1 .left) in
+    let at = s .pre .1 .1 .1 in
+    ((λ t u. at .0 t (omega (arith, u, s .pre .0 .ceiling-reaches (i .before .loop .l) (i .loop-test .taken) counts)), at .1), (after-end _ (s .pre .0) (s .pre .1 .0) (i .before .loop .l) (i .loop-test .taken) (s .pre .1 .1 .0) counts, omega (arith, released-before-end _ (s .pre .0) (s .pre .1 .0), s .pre .1 .1 .0)))
 
 -- src/responses.rt:110:9
 better-requires : tie.Need-better-requires Inv-loop μ-loop
@@ -100,7 +102,7 @@ loop-again-2 c =
     let i = e .before .before in
     let h = i .before .loop in
     let s = c .before .before .before .before .before .before .before .before .before .before .before .before in
-    let here = responds _ (s .pre .0) (s .pre .1 .0) (h .l) (i .loop-test .taken) (s .pre .1 .1) (pos-of-ne-zero (e .if1 .left)) (c .before .response-with .ensures) in
+    let here = responds _ (s .pre .0) (s .pre .1 .0) (h .l) (i .loop-test .taken) (s .pre .1 .1 .0) (pos-of-ne-zero (e .if1 .left)) (c .before .response-with .ensures) in
     (turn-within _ _ (i .loop-test .taken), best-step (responseWith _ (s .args .k)) (h .l) (h .inv .1) here (c .better .ensures))
 
 -- src/responses.rt:86:1

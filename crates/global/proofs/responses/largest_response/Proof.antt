@@ -114,7 +114,7 @@ job-response-requires : tie.Need-job-response-requires Inv-loop μ-loop
 job-response-requires c κs =
     let h = c .before .before .before .before .before .before .before .loop in
     let s = c .before .before .before .before .before .before .before .before .before .before .before .before .before .before in
-    (s .pre .0, (job-counted _ (s .pre .1 .0) (h .k) (omega arith), h .inv .2))
+    (s .pre .0, (job-counted _ (s .pre .1 .0) (h .k) (omega arith), (h .inv .2, (h .inv .3, h .inv .4))))
 
 -- src/responses.rt:203:13
 worse-requires : tie.Need-worse-requires Inv-loop μ-loop
@@ -152,7 +152,7 @@ job-response-requires-2 : tie.Need-job-response-requires-2 Inv-loop μ-loop
 job-response-requires-2 c κs =
     let h = c .before .loop in
     let s = c .before .before .before .before .before .before .before .before in
-    (s .pre .0, (job-counted _ (s .pre .1 .0) (h .k) (omega arith), h .inv .2))
+    (s .pre .0, (job-counted _ (s .pre .1 .0) (h .k) (omega arith), (h .inv .2, (h .inv .3, h .inv .4))))
 
 -- src/responses.rt:209:5
 worse-requires-2 : tie.Need-worse-requires-2 Inv-loop μ-loop
