@@ -52,11 +52,6 @@ module _ (v : View) (sv : Sound-view v) where
   budget-floor k =
       stands-at-floor (budgetTotal v k) (omega (arith, sv .budget-pos, ahead-holds-budget v k)) (λ y l. omega (arith, budget-total v k y))
 
-  -- What the code computes ahead of job k.
-  pub ahead-computed : (k : ℕ) {r : ℕ} → r ≡ v .blocking + k * getD (v .costs) (v .place) 0 + v .budget → r ≡ ahead v k
-  unfolding ahead
-  ahead-computed k e = e ∙ ap (λ (c : ℕ). v .blocking + k * c + v .budget) (sv .own-cost)
-
   module _ {k : ℕ} (ct : Counted v k) where
     -- The jobs before k take less than the active period.
     pub jobs-before-within : k * getD (v .costs) (v .place) 0 < ct .active

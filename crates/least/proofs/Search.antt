@@ -56,10 +56,6 @@ module _ (f : ℕ → ℕ) where
   stands-below {x} {top} s from down =
       ⊎-elim (λ (h : x ≤ top). h) (λ (h : top < x). absurd (omega (arith, s .before top from h))) (le-or-lt x top)
 
-  -- Nor does it pass where it stands: below x nothing solves x = f x.
-  pub stands-before : {x : ℕ} → Stands f x → (y : ℕ) → 1 ≤ y → y < x → y ≡ f y → ⊥
-  stands-before s y l u e = omega (arith, s .before y l u)
-
   -- Where f has come down at top, a search from x, with n steps up to top, finds the least solution.
   climbs : Mono f → {top : ℕ} → 1 ≤ top → f top ≤ top → (n : ℕ) {x : ℕ} → Stands f x → top ≤ x + n → (z : ℕ) × (z ≤ top) × IsLeast f z
   climbs m {top} from down zero {x} s h =

@@ -4,7 +4,6 @@ use Prim.Native.Nat.{ℕ, _≤_, _<_, _^_}
 use mathlib.Core.Path.{_≡_}
 use mathlib.Core.List.{List}
 use lib.ListN.{length, getD}
-use Rattle.least.specs.Demand.{total}
 
 -- Every search stays below this number of ticks.
 abbrev pub reach : ℕ
@@ -24,12 +23,6 @@ pub record Stands (f : ℕ → ℕ) (x : ℕ) : Type 0 where
   pub from : 1 ≤ x
   pub rises : x ≤ f x
   pub before : (y : ℕ) → 1 ≤ y → y < x → y < f y
-
--- A search that starts at `start`.
-pub record Search (periods costs : List ℕ) (n constant start : ℕ) : Type 0 where
-  pub loads : Loads periods costs n
-  pub constant-small : constant < 2 ^ 48
-  pub stands : Stands (total periods costs n constant) start
 
 -- Some number from 1 up and within reach is one at which f has come down: a least solution of x = f x lies at or below it.
 pub record Comes-down (f : ℕ → ℕ) : Type 0 where
