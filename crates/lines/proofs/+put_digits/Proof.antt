@@ -25,7 +25,9 @@ abbrev put-digits-below : ℕ → In 1 put-digits-kinds.ps
 put-digits-below t =
     and 1 put-digits-kinds.ps (falls 1 put-digits-kinds.ps _<_ μ-put-digits t) put-digits.Pre
 
-put-digits-put-two-requires : (t : ℕ) → put-digits-lts.Need-put-two-requires (
+-- What the functions that it calls ask for and say, itself among them where the number is smaller.
+abbrev claims : ℕ → put-digits-lts.Claims
+claims t = (
   put-two-reads.Asked,
   put-two-reads.Learnt,
   put-digits-below t,
@@ -34,45 +36,20 @@ put-digits-put-two-requires : (t : ℕ) → put-digits-lts.Need-put-two-requires
   digit-reads.Learnt,
   put-byte-reads.Asked,
   put-byte-reads.Learnt,
-) (put-digits-at t) put-digits.Post
+)
+
+put-digits-put-two-requires : (t : ℕ) → put-digits-lts.Need-put-two-requires (claims t) (put-digits-at t) put-digits.Post
 put-digits-put-two-requires t c κs =
     let s = c .before .before .before in
     (s .pre .1 .0, omega (arith, c .before .if1 .taken), s .pre .1 .1)
 
-put-digits-same-length : (t : ℕ) → put-digits-lts.Need-same-length (
-  put-two-reads.Asked,
-  put-two-reads.Learnt,
-  put-digits-below t,
-  put-digits.Post,
-  digit-reads.Asked,
-  digit-reads.Learnt,
-  put-byte-reads.Asked,
-  put-byte-reads.Learnt,
-) (put-digits-at t) put-digits.Post
+put-digits-same-length : (t : ℕ) → put-digits-lts.Need-same-length (claims t) (put-digits-at t) put-digits.Post
 put-digits-same-length t c = c .before .before .put-two .kept .0
 
-put-digits-returns : (t : ℕ) → put-digits-lts.Need-returns (
-  put-two-reads.Asked,
-  put-two-reads.Learnt,
-  put-digits-below t,
-  put-digits.Post,
-  digit-reads.Asked,
-  digit-reads.Learnt,
-  put-byte-reads.Asked,
-  put-byte-reads.Learnt,
-) (put-digits-at t) put-digits.Post
+put-digits-returns : (t : ℕ) → put-digits-lts.Need-returns (claims t) (put-digits-at t) put-digits.Post
 put-digits-returns t c = c .before .before .put-two .ensures
 
-put-digits-put-digits-requires : (t : ℕ) → put-digits-lts.Need-put-digits-requires (
-  put-two-reads.Asked,
-  put-two-reads.Learnt,
-  put-digits-below t,
-  put-digits.Post,
-  digit-reads.Asked,
-  digit-reads.Learnt,
-  put-byte-reads.Asked,
-  put-byte-reads.Learnt,
-) (put-digits-at t) put-digits.Post
+put-digits-put-digits-requires : (t : ℕ) → put-digits-lts.Need-put-digits-requires (claims t) (put-digits-at t) put-digits.Post
 put-digits-put-digits-requires t c κs = (
   omega (arith, c .before .before .before .pre .0),
   (
@@ -81,28 +58,10 @@ put-digits-put-digits-requires t c κs = (
   ),
 )
 
-put-digits-digit-requires : (t : ℕ) → put-digits-lts.Need-digit-requires (
-  put-two-reads.Asked,
-  put-two-reads.Learnt,
-  put-digits-below t,
-  put-digits.Post,
-  digit-reads.Asked,
-  digit-reads.Learnt,
-  put-byte-reads.Asked,
-  put-byte-reads.Learnt,
-) (put-digits-at t) put-digits.Post
+put-digits-digit-requires : (t : ℕ) → put-digits-lts.Need-digit-requires (claims t) (put-digits-at t) put-digits.Post
 put-digits-digit-requires t c κs = omega arith
 
-put-digits-put-byte-requires : (t : ℕ) → put-digits-lts.Need-put-byte-requires (
-  put-two-reads.Asked,
-  put-two-reads.Learnt,
-  put-digits-below t,
-  put-digits.Post,
-  digit-reads.Asked,
-  digit-reads.Learnt,
-  put-byte-reads.Asked,
-  put-byte-reads.Learnt,
-) (put-digits-at t) put-digits.Post
+put-digits-put-byte-requires : (t : ℕ) → put-digits-lts.Need-put-byte-requires (claims t) (put-digits-at t) put-digits.Post
 put-digits-put-byte-requires t c κs =
     omega (
       arith,
@@ -112,28 +71,10 @@ put-digits-put-byte-requires t c κs =
       c .before .before .before .before .before .before .before .before .pre .1 .1,
     )
 
-put-digits-same-length-2 : (t : ℕ) → put-digits-lts.Need-same-length-2 (
-  put-two-reads.Asked,
-  put-two-reads.Learnt,
-  put-digits-below t,
-  put-digits.Post,
-  digit-reads.Asked,
-  digit-reads.Learnt,
-  put-byte-reads.Asked,
-  put-byte-reads.Learnt,
-) (put-digits-at t) put-digits.Post
+put-digits-same-length-2 : (t : ℕ) → put-digits-lts.Need-same-length-2 (claims t) (put-digits-at t) put-digits.Post
 put-digits-same-length-2 t c = c .before .before .put-byte .kept .0 ∙ c .before .before .before .before .before .before .before .put-digits .kept .0
 
-put-digits-returns-2 : (t : ℕ) → put-digits-lts.Need-returns-2 (
-  put-two-reads.Asked,
-  put-two-reads.Learnt,
-  put-digits-below t,
-  put-digits.Post,
-  digit-reads.Asked,
-  digit-reads.Learnt,
-  put-byte-reads.Asked,
-  put-byte-reads.Learnt,
-) (put-digits-at t) put-digits.Post
+put-digits-returns-2 : (t : ℕ) → put-digits-lts.Need-returns-2 (claims t) (put-digits-at t) put-digits.Post
 put-digits-returns-2 t c =
     let s = c .before .before .before .before .before .before .before .before .before .before .before in
     let a = s .args in
