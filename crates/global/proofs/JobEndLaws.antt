@@ -4,7 +4,9 @@ use Prim.Native.Nat.{ℕ, _+_, _-_, _*_, _≤_, _<_}
 use native.Mathlib.Omega.{arith}
 use mathlib.Core.Path.{_≡_, refl, sym, ap, _∙_}
 use mathlib.Core.Option.{some}
-use Rattle.least.specs.Demand.{demand, demandBetween, total}
+use mathlib.Core.List.{List}
+use Rattle.lists.proofs.Over.{sumTo-zero}
+use Rattle.least.specs.Demand.{loadIn, demand, demandBetween, total}
 use Rattle.least.specs.Least.{least}
 use Rattle.least.specs.Search.{Loads, Stands, Comes-down, IsLeast}
 use Rattle.least.proofs.Demand.{demand-mono, demand-split, between-mono, loads-fewer}
@@ -31,6 +33,11 @@ open-in v l x = demand (v .periods) (v .costs) (ceiling v l) x
 
 abbrev shut-in : View → ℕ → ℕ → ℕ
 shut-in v l x = demandBetween (v .periods) (v .costs) (ceiling v l) (v .place) x
+
+-- No loads ask for nothing.
+demand-of-none : (periods costs : List ℕ) (x : ℕ) → demand periods costs 0 x ≡ 0
+unfolding demand
+demand-of-none periods costs x = sumTo-zero (loadIn periods costs x)
 
 module _ (v : View) (k l : ℕ) where
   job-total : (x : ℕ) → jobTotal v k l x ≡ ahead v k + held v l + shut-in v l (budgetEnd v k) + open-in v l x
@@ -104,6 +111,17 @@ module _ (v : View) (sv : Sound-view v) {k : ℕ} (ct : Counted v k) (l : ℕ) (
 
   pub released-before-job-end : k * v .period < jobEnd v k l
   released-before-job-end = omega (arith, released-before-end v sv ct, job-end-from)
+
+  -- Where no higher subsystem comes between, it is X(s, l) after F(k).
+  pub job-end-plain : ceiling v l ≡ 0 → jobEnd v k l ≡ budgetEnd v k + held v l
+  job-end-plain e =
+      omega (arith, job-end-is-least .solution, job-total v k l (jobEnd v k l), constant-by-end, nothing-open (jobEnd v k l), nothing-open (budgetEnd v k), job-constant-is)
+    where
+      nothing-open : (x : ℕ) → open-in v l x ≡ 0
+      nothing-open x = rw e (demand-of-none (v .periods) (v .costs) x)
+
+      job-constant-is : jobConstant v k l ≡ ahead v k + held v l + shut-in v l (budgetEnd v k)
+      job-constant-is = unfold shutOut in refl
 
   -- It is at least Q before the end of the next job's budget: by then all that the job may wait for has been asked for.
   pub job-end-before-next : Counted v (k + 1) → jobEnd v k l + v .budget ≤ budgetEnd v (k + 1)

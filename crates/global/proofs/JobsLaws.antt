@@ -2,6 +2,7 @@
 use Prim.Native.Nat.{ℕ, _*_, _^_, _≤_, _<_}
 use native.Mathlib.Omega.{arith}
 use mathlib.Core.Path.{_≡_}
+use Rattle.table.specs.Limits.{horizon}
 use Rattle.global.specs.View.{View}
 use Rattle.global.specs.Ends.{budgetEnd}
 use Rattle.global.specs.Sound.{Sound-view, Counted, Jobs}
@@ -20,6 +21,9 @@ some-jobs v sv j = rw (j .all) (some-job v sv (j .is-active))
 module _ (v : View) (sv : Sound-view v) {k : ℕ} (ct : Counted v k) where
   pub release-fits : k * v .period < 2 ^ 32
   release-fits = omega (arith, released-before-end v sv ct, budget-end-within v sv ct, active-within v sv (ct .is-active))
+
+  pub end-small : budgetEnd v k ≤ horizon
+  end-small = omega (arith, budget-end-within v sv ct, active-within v sv (ct .is-active))
 
   pub budget-by-its-end : {end : ℕ} → end ≡ budgetEnd v k → v .budget ≤ end
   budget-by-its-end e = omega (arith, e, budget-end-parts v sv ct, ahead-holds-budget v k)

@@ -1,6 +1,6 @@
--- Laws of the jobs whose end need not be looked for: a job ends Q before the next one's budget does, or earlier, so where that
--- leaves no room for a larger response than the worst so far, the worst so far stays;
--- and where no later job has room, it is the worst of all. Assumes nothing.
+-- Laws of the jobs whose end need not be looked for: a job ends Q before the next one's budget does, or earlier, and within X of its
+-- own where no higher subsystem comes between. Where that leaves no room for a larger response than the worst so far, the worst so
+-- far stays; and where no later job has room, it is the worst of all. Assumes nothing.
 use Prim.Native.Nat.{ℕ, zero, suc, _+_, _-_, _*_, _≤_, _<_}
 use native.Mathlib.Nat.{add-zero, add-assoc, add-mul, mul-add, suc-mul, mul-le-mul-right}
 use native.Mathlib.Omega.{arith}
@@ -8,20 +8,20 @@ use native.Mathlib.Numerals.{add-one}
 use mathlib.Core.Path.{_≡_, refl, sym, ap, _∙_}
 use mathlib.Core.Bool.{Bool, true, false, cond}
 use mathlib.Core.Logic.{⊎-elim}
-use borrow.Author.Tests.{lt-ltb, ltb-false, leb-true}
-use lib.Dec.{leb, ltb}
+use borrow.Author.Tests.{lt-ltb, ltb-false}
+use lib.Dec.{ltb}
 use Rattle.lists.specs.Range.{largestTo}
 use Rattle.lists.proofs.Over.{le-or-lt, largestTo-zero, below-largest, largest-at-most, largest-reached}
-use Rattle.global.specs.View.{View, resources, held, overrun, cost}
+use Rattle.global.specs.View.{View, resources, held, ceiling, overrun, cost}
 use Rattle.global.specs.Ends.{budgetEnd, jobEnd}
 use Rattle.global.specs.Response.{responseWith, jobResponse, response}
-use Rattle.global.specs.Sound.{Sound-view, Counted, Jobs}
+use Rattle.global.specs.Sound.{Sound-view, Counted, Jobs, Plain}
 use Rattle.global.specs.Computed.{jobOf, worstOf}
 use Rattle.global.specs.declared.responses.Job.{Job}
 use Rattle.global.specs.declared.responses.Worst.{Worst}
 use Rattle.global.proofs.ActiveLaws.{budget-at-most}
 use Rattle.global.proofs.BudgetEndLaws.{budget-end-next, budget-end-within, last-leaves, released-before-end}
-use Rattle.global.proofs.JobEndLaws.{job-end-within, job-end-before-next, released-before-job-end}
+use Rattle.global.proofs.JobEndLaws.{job-end-within, job-end-plain, job-end-before-next, released-before-job-end}
 use Rattle.global.proofs.ResponseLaws.{counted-response, uncounted-response, response-without, response-with}
 use Rattle.global.proofs.JobsLaws.{some-jobs}
 use Rattle.global.proofs.BestLaws.{worst-first, worst-step, worst-stays}
@@ -99,6 +99,34 @@ module _ (v : View) (sv : Sound-view v) {k : ℕ} (ct : Counted v k) where
             budget-at-most v,
           )
 
+  -- Where no higher subsystem comes between, it ends within X of its budget's end.
+  pub response-plain : Plain (v .holdings) (v .ceilings) → jobResponse v k + k * v .period ≤ budgetEnd v k + overrun v
+  response-plain plain = ⊎-elim without with-some (le-or-lt (overrun v) 0)
+    where
+      without : overrun v ≤ 0 → jobResponse v k + k * v .period ≤ budgetEnd v k + overrun v
+      without h = omega (arith, response-without v k (omega arith), released-before-end v sv ct)
+
+      held-at-most : (l : ℕ) → l < resources v → held v l ≤ overrun v
+      held-at-most l within = unfold overrun in below-largest (held v) (resources v) l within
+
+      highest : (l : ℕ) → l < resources v → 0 < held v l → ceiling v l ≡ 0
+      highest l within u = unfold held ceiling in plain l within u
+
+      each : (l : ℕ) → l < resources v → responseWith v k l ≤ budgetEnd v k + overrun v - k * v .period
+      each l within =
+          ⊎-elim (λ (u : held v l ≤ 0). omega (arith, uncounted-response v k l u))
+          (λ (u : 0 < held v l). omega (arith, counted-response v k l u, job-end-plain v sv ct l within u (highest l within u), held-at-most l within))
+          (le-or-lt (held v l) 0)
+
+      with-some : 0 < overrun v → jobResponse v k + k * v .period ≤ budgetEnd v k + overrun v
+      with-some h =
+          omega (
+            arith,
+            response-with v k h,
+            largest-at-most (responseWith v k) (resources v) (budgetEnd v k + overrun v - k * v .period) each,
+            released-before-end v sv ct,
+          )
+
 ------------------------------------------------------------------------
 -- The worst of the jobs so far; before the first there is none, and 0 stands for its response
 
@@ -134,20 +162,28 @@ module _ (v : View) where
   unfolding WorstTo
   worst-of-all n m w e h = h .1 (omega arith) ∙ ap (worstOf v) e
 
--- Where the next budget end leaves no room, the job is passed over: as the code tests it. It is never the first.
+-- A job ends at the latest when the code says so.
+module _ (v : View) (sv : Sound-view v) (k : ℕ) (ct : Counted v k) (after : Counted v (k + 1)) {end next c : ℕ} where
+  pub latest-holds :
+      end ≡ budgetEnd v k → next ≡ budgetEnd v (k + 1) → c ≡ cost v → (plain : Bool) → (plain ≡ true → Plain (v .holdings) (v .ceilings)) → {latest : ℕ} →
+      latest ≡ cond plain (end + (c - v .budget)) (next - v .budget) → jobResponse v k + k * v .period ≤ latest
+  unfolding cost
+  latest-holds e f g true h l = omega (arith, e, g, l, response-plain v sv ct (h refl))
+  latest-holds e f g false h l = omega (arith, f, l, response-before-next v sv ct after)
+
+-- Where that leaves no room, the job is passed over: as the code tests it. It is never the first.
 pub passed-over :
-    (v : View) → Sound-view v → (k : ℕ) → Counted v k → Counted v (k + 1) → (w : Worst) (next : ℕ) → next ≡ budgetEnd v (k + 1) →
-    ltb (w .response + k * v .period) (next - v .budget) ≡ false → WorstTo v k w → WorstTo v (k + 1) w
+    (v : View) → Sound-view v → (k : ℕ) → Counted v k → (w : Worst) (latest : ℕ) → jobResponse v k + k * v .period ≤ latest →
+    ltb (w .response + k * v .period) latest ≡ false → WorstTo v k w → WorstTo v (k + 1) w
 unfolding WorstTo response
-passed-over v sv k ct after w next e f h =
-    let room : next - v .budget ≤ w .response + k * v .period = ltb-false _ _ f in
-    let ends : jobResponse v k + k * v .period + v .budget ≤ budgetEnd v (k + 1) = response-before-next v sv ct after in
-    ⊎-elim (λ (z : k ≤ 0). absurd (first z room ends))
+passed-over v sv k ct w latest ends f h =
+    let room : latest ≤ w .response + k * v .period = ltb-false _ _ f in
+    ⊎-elim (λ (z : k ≤ 0). absurd (first z room))
     (λ (from : 0 < k). worst-to-passed v k from w h (omega arith))
     (le-or-lt k 0)
   where
-    first : k ≤ 0 → next - v .budget ≤ w .response + k * v .period → jobResponse v k + k * v .period + v .budget ≤ budgetEnd v (k + 1) → ⊥
-    first z room ends =
+    first : k ≤ 0 → latest ≤ w .response + k * v .period → ⊥
+    first z room =
         let none : k ≡ 0 = omega arith in
         let zero-response : w .response ≡ 0 = h .0 ∙ ap (largestTo (jobResponse v)) none ∙ largestTo-zero (jobResponse v) in
         omega (arith, response-above-zero v sv ct)
@@ -196,7 +232,7 @@ module _ (v : View) (sv : Sound-view v) {active n : ℕ} (jobs-are : Jobs v acti
         rw (← add-one d, ← add-assoc k d 1)
         (worst-to-passed v (k + d) (omega arith) w (stays d (omega arith) from g) (no-worse (k + d) (omega arith) (omega arith)))
 
-    pub settled-worst : k + 1 < n → WorstTo v k w → w ≡ worstOf v n
+    pub settled-worst : k < n → WorstTo v k w → w ≡ worstOf v n
     unfolding WorstTo response
     settled-worst h g =
         ⊎-elim (λ (z : k ≤ 0). absurd (never z))
@@ -217,7 +253,9 @@ module _ (v : View) (sv : Sound-view v) {active n : ℕ} (jobs-are : Jobs v acti
     pub room-there : (n - 1) * c ≤ active
     room-there = rw e room-fits
 
-    pub settled-as-tested : (k : ℕ) (w : Worst) → leb (active - (n - 1) * c) (w .response + k * (v .period - c)) ≡ true → k + 1 < n → WorstTo v k w → w ≡ worstOf v n
-    settled-as-tested k w t h g =
-        let tested : active - (n - 1) * c ≤ w .response + k * (v .period - c) = leb-true (active - (n - 1) * c) (w .response + k * (v .period - c)) t in
-        settled-worst k w (rw e at tested) h g
+    -- From some job on, and so from a later one.
+    pub settled-from : (j k : ℕ) (w : Worst) → active - (n - 1) * c ≤ w .response + j * (v .period - c) → j ≤ k → k < n → WorstTo v k w → w ≡ worstOf v n
+    settled-from j k w t h u g =
+        let later : j * (v .period - c) ≤ k * (v .period - c) = mul-le-mul-right (v .period - c) h in
+        let tested : active - (n - 1) * c ≤ w .response + k * (v .period - c) = omega (arith, t, later) in
+        settled-worst k w (rw e at tested) u g

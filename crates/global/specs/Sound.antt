@@ -59,3 +59,7 @@ pub record First-end (v : View) (ends : List ℕ) (first : ℕ) : Type 0 where
 pub record Active (v : View) (r : ℕ) : Type 0 where
   pub at : r ≤ horizon → activePeriod v ≡ some r
   pub beyond : horizon < r → activePeriod v ≡ none
+
+-- Every resource that is held has the highest ceiling: no higher subsystem comes between once the budget has ended.
+abbrev pub Plain : List ℕ → List ℕ → Type 0
+Plain holdings ceilings = (l : ℕ) → l < length holdings → 0 < getD holdings l 0 → getD ceilings l 0 ≡ 0

@@ -1,11 +1,12 @@
 // Budget ends, job ends and responses of one subsystem, over every job of its active period.
 use least::least_within;
+use least::round_up;
 use numbers::wide;
 use table::Table;
 ghost use mathlib.Core.Path.{_≡_};
-ghost use mathlib.Core.Bool.{cond};
+ghost use mathlib.Core.Bool.{true, cond};
 ghost use Prim.Native.Nat.{_+_, _-_, _*_, _^_, _≤_, _<_};
-ghost use lib.Dec.{leb, ltb};
+ghost use lib.Dec.{ltb};
 ghost use lib.ListN.{length};
 ghost use Rattle.least.specs.Demand.{total};
 ghost use Rattle.least.specs.Search.{IsLeast};
@@ -14,7 +15,7 @@ ghost use Rattle.table.specs.Limits.{most};
 ghost use Rattle.global.specs.Response.{responseWith};
 ghost use Rattle.global.specs.Ends.{budgetEnd};
 ghost use Rattle.global.specs.Computed.{seenBy, Budget-over, bestOf, jobOf, worstOf};
-ghost use Rattle.global.specs.Sound.{Sound-view, Counted, Jobs, First-end};
+ghost use Rattle.global.specs.Sound.{Sound-view, Counted, Jobs, First-end, Plain};
 
 // What a subsystem knows of itself: s, P(s), Q(s) and B(s).
 pub struct Own {
@@ -156,27 +157,62 @@ fn job_response(
     }
 }
 
-// Whether job k, whose end is not known, may respond later than the worst so far. It ends Q ticks before F(k + 1), which is
-// `next`, or earlier.
-fn may_be_worse(own: Own, worst: Worst, k: u32, next: u32) -> bool
-    requires { ⌜ (k * own .period < 2 ^ 32) × (own .budget ≤ next) ⌝ }
-    ensures { λ r. ⌜ r ≡ ltb (worst .response + k * own .period) (next - own .budget) ⌝ }
+// Whether no higher subsystem comes between once the budget has ended: every resource that is held has the highest ceiling.
+fn is_plain(holdings: &[u32], ceilings: &[usize]) -> bool
+    requires { ⌜ length (now holdings) ≤ length (now ceilings) ⌝ }
+    ensures { λ r. ⌜ (r ≡ true → Plain (now (holdings .entry)) (now (ceilings .entry))) ⌝ }
 {
-    wide(worst.response) + wide(k * own.period) < wide(next - own.budget)
+    let mut l: usize = 0;
+    while l < holdings.len() {
+        if holdings[l] != 0 {
+            if ceilings[l] != 0 {
+                return false;
+            }
+        }
+        l += 1;
+    }
+    true
 }
 
-// Whether no job from k on can respond later than the worst so far: each leaves Q + X for every job behind it within the active
-// period, of which `room` is what the jobs behind job 0 leave, and a period has `free` ticks besides.
-fn is_settled(worst: Worst, room: u32, free: u32, k: u32) -> bool
-    requires { ⌜ k * free < 2 ^ 32 ⌝ }
-    ensures { λ r. ⌜ r ≡ leb room (worst .response + k * free) ⌝ }
+// When a job ends at the latest whose budget ends at `end` and the next one's at `next`: X later where no higher subsystem comes
+// between, else Q ticks before `next`.
+fn latest_end(own: Own, plain: bool, cost: u32, end: u32, next: u32) -> u32
+    requires { ⌜ (own .budget ≤ next) × (own .budget ≤ cost) × (end + cost < 2 ^ 32) ⌝ }
+    ensures { λ r. ⌜ r ≡ cond plain (end + (cost - own .budget)) (next - own .budget) ⌝ }
 {
-    wide(room) <= wide(worst.response) + wide(k * free)
+    if plain {
+        end + (cost - own.budget)
+    } else {
+        next - own.budget
+    }
+}
+
+// Whether job k, which ends at `latest` or earlier, may respond later than the worst so far.
+fn may_be_worse(own: Own, worst: Worst, k: u32, latest: u32) -> bool
+    requires { ⌜ k * own .period < 2 ^ 32 ⌝ }
+    ensures { λ r. ⌜ r ≡ ltb (worst .response + k * own .period) latest ⌝ }
+{
+    wide(worst.response) + wide(k * own.period) < wide(latest)
+}
+
+// The first job, at most `last`, from which on none can respond later than the worst so far: each leaves Q + X for every job behind
+// it within the active period, of which `room` is what the jobs behind job 0 leave, and a period has `free` ticks besides.
+fn settled_from(worst: Worst, room: u32, free: u32, last: u32) -> u32
+    ensures { λ r. ⌜ (r ≤ last) × (r < last → room ≤ worst .response + r * free) ⌝ }
+{
+    if room <= worst.response {
+        return 0;
+    }
+    if free == 0 {
+        return last;
+    }
+    let first = round_up(room - worst.response, free);
+    if first < last { first } else { last }
 }
 
 // The largest response over the n jobs of the active period, the first job that has it, and that job's lowest resource. The
 // first budget end is known; each other is searched from where the last one was found, with Q + X more to wait for. A job's own
-// end is looked for only where the next budget end leaves room for a larger response, and none where no later job has room.
+// end is looked for only where there is room for a larger response, and none where no later job has room.
 pub(crate) fn largest_response(
     periods: &[u32],
     costs: &[u32],
@@ -204,20 +240,25 @@ pub(crate) fn largest_response(
     let mut end = first;
     let mut k: u32 = 0;
     let free = own.period - cost;
-    let room = active - (n - 1) * cost;
-    while k + 1 < n {
-        if is_settled(worst, room, free, k) {
-            return worst;
-        }
+    let last = n - 1;
+    let room = active - last * cost;
+    let plain = is_plain(holdings, ceilings);
+    let mut until = last;
+    while k < until {
         let before = reached;
         let next = least_within(periods, costs, s, &mut reached, end, cost);
-        if may_be_worse(own, worst, k, next) {
+        let latest = latest_end(own, plain, cost, end, next);
+        if may_be_worse(own, worst, k, latest) {
             let job = job_response(periods, costs, holdings, ceilings, own, k, end, before);
             worst = worse(worst, job, k);
+            until = settled_from(worst, room, free, last);
         }
         end = next;
         k += 1;
     }
-    let last = job_response(periods, costs, holdings, ceilings, own, k, end, reached);
-    worse(worst, last, k)
+    if until < last {
+        return worst;
+    }
+    let job = job_response(periods, costs, holdings, ceilings, own, k, end, reached);
+    worse(worst, job, k)
 }

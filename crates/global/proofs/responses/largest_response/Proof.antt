@@ -1,171 +1,176 @@
 -- `global::responses::largest_response` meets its contract. The loop's invariant: the worst of the jobs passed so far, the end of
--- this job's budget, and where the higher subsystems' periods begun by then end. Assumes nothing.
-use Prim.Native.Nat.{_+_, _*_, _≤_, _-_}
-use native.Mathlib.Nat.{mul-le-mul-left}
+-- this job's budget, where the higher subsystems' periods begun by then end, and from which job on none can be worse. Assumes nothing.
+use Prim.Native.Nat.{_+_, _*_, _-_, _≤_, _<_}
 use mathlib.Core.Path.{_≡_, sym, _∙_}
 use mathlib.Core.Logic.{⊎-elim}
-use lib.ListN.{length, getD}
+use lib.ListN.{length}
 use Rattle.least.specs.After.{EndsAt}
-use Rattle.table.specs.Limits.{most, horizon}
+use Rattle.table.specs.Limits.{most}
 use Rattle.global.specs.Ends.{budgetEnd}
 use Rattle.global.specs.Computed.{seenBy}
-use Rattle.global.proofs.ActiveLaws.{active-within}
-use Rattle.global.proofs.JobsLaws.{job-counted, some-jobs, release-fits, budget-by-its-end}
+use Rattle.global.proofs.ActiveLaws.{active-within, budget-at-most}
+use Rattle.global.proofs.JobsLaws.{job-counted, some-jobs, release-fits, end-small, budget-by-its-end}
 use Rattle.global.proofs.WaitLaws.{first-is, next-after, next-down, next-found}
-use Rattle.global.proofs.SkipLaws.{WorstTo, worst-to-none, worst-to-judged, worst-of-all, passed-over, response-above-zero, room-there, settled-as-tested}
+use Rattle.global.proofs.SkipLaws.{WorstTo, worst-to-none, worst-to-judged, worst-of-all, latest-holds, passed-over, response-above-zero, room-there, settled-from}
 use borrow.Author.Needs.{needs}
 use native.Mathlib.Omega.{arith}
 use Rattle.global.proofs.responses.largest_response.Statement.{statement}
 use Rattle.global.proofs.responses.largest_response.Tie as tie
 use Rattle.global.proofs.responses.largest_response.Reads as reads
 use Rattle.global.proofs.responses.largest_response.Lts as lts
-use Rattle.global.proofs.responses.is_settled.Reads as is-settled-reads
+use Rattle.global.proofs.responses.is_plain.Reads as is-plain-reads
 use Rattle.global.proofs.responses.job_response.Reads as job-response-reads
+use Rattle.global.proofs.responses.latest_end.Reads as latest-end-reads
 use Rattle.global.proofs.responses.may_be_worse.Reads as may-be-worse-reads
+use Rattle.global.proofs.responses.settled_from.Reads as settled-from-reads
 use Rattle.global.proofs.responses.worse.Reads as worse-reads
 use Rattle.least.proofs.least_within.Reads as least-within-reads
 
 abbrev Inv-loop : tie.InvT-loop
-Inv-loop periods costs holdings ceilings own n active first s cost worst₀ reached₀ end₀ k₀ free room worst reached end k =
-    (k + 1 ≤ n) × WorstTo (seenBy periods costs holdings ceilings own) k worst × (end ≡ budgetEnd (seenBy periods costs holdings ceilings own) k) × EndsAt periods reached (own .place) end × (most ≤ length reached)
+Inv-loop periods costs holdings ceilings own n active first s cost worst₀ reached₀ end₀ k₀ free last room plain until₀ worst reached end k until =
+    (k + 1 ≤ n) × (until + 1 ≤ n) × (until + 1 < n → room ≤ worst .response + until * free) × WorstTo (seenBy periods costs holdings ceilings own) k worst × (end ≡ budgetEnd (seenBy periods costs holdings ceilings own) k) × EndsAt periods reached (own .place) end × (most ≤ length reached)
 
 abbrev μ-loop : tie.MeasureT-loop
-μ-loop periods costs holdings ceilings own n active first s cost worst₀ reached₀ end₀ k₀ free room worst reached end k = n - k
+μ-loop periods costs holdings ceilings own n active first s cost worst₀ reached₀ end₀ k₀ free last room plain until₀ worst reached end k until = n - k
 
--- src/responses.rt:185:16
+-- src/responses.rt:237:16
 mul-cost : tie.Need-mul-cost Inv-loop μ-loop
 mul-cost c = search needs
 
--- src/responses.rt:185:16
+-- src/responses.rt:237:16
 shared-slice-read-cost : tie.Need-shared-slice-read-cost Inv-loop μ-loop
 shared-slice-read-cost c = search needs
 
--- src/responses.rt:194:16
+-- src/responses.rt:246:16
 sub-free : tie.Need-sub-free Inv-loop μ-loop
 sub-free c =
     let s = c .before .before .before .before .before .before in
     omega (arith, s .pre .0 .fits, s .pre .0 .own-cost)
 
--- src/responses.rt:195:26
-sub-room : tie.Need-sub-room Inv-loop μ-loop
-sub-room c =
+-- src/responses.rt:247:16
+sub-last : tie.Need-sub-last Inv-loop μ-loop
+sub-last c =
     let s = c .before .before .before .before .before .before in
     omega (arith, some-jobs _ (s .pre .0) (s .pre .1 .0))
 
--- src/responses.rt:195:25
+-- src/responses.rt:248:25
 mul-room : tie.Need-mul-room Inv-loop μ-loop
 mul-room c =
     let s = c .before .before .before .before .before .before in
     record { fits = omega (arith, room-there _ (s .pre .0) (s .pre .1 .0) (s .pre .0 .own-cost), active-within _ (s .pre .0) (s .pre .1 .0 .is-active)) }
 
--- src/responses.rt:195:16
-sub-room-2 : tie.Need-sub-room-2 Inv-loop μ-loop
-sub-room-2 c =
+-- src/responses.rt:248:16
+sub-room : tie.Need-sub-room Inv-loop μ-loop
+sub-room c =
     let s = c .before .before .before .before .before .before in
     room-there _ (s .pre .0) (s .pre .1 .0) (s .pre .0 .own-cost)
 
--- src/responses.rt:196:5
+-- src/responses.rt:249:9
+is-plain-requires : tie.Need-is-plain-requires Inv-loop μ-loop
+is-plain-requires c κs = omega (arith, c .before .before .before .before .before .before .pre .0 .same-resources)
+
+-- src/responses.rt:251:5
 loop-holds : tie.Need-loop-holds Inv-loop μ-loop
 loop-holds c =
-    let s = c .before .before .before .before .before .before in
-    (some-jobs _ (s .pre .0) (s .pre .1 .0), worst-to-none _, first-is _ (s .pre .0) (s .pre .1 .1), s .pre .1 .1 .ends-at, s .pre .1 .1 .with-end)
+    let s = c .before .before .before .before .before .before .before in
+    (some-jobs _ (s .pre .0) (s .pre .1 .0), omega (arith, some-jobs _ (s .pre .0) (s .pre .1 .0)), λ u. absurd (omega (arith, u)), worst-to-none _, first-is _ (s .pre .0) (s .pre .1 .1), s .pre .1 .1 .ends-at, s .pre .1 .1 .with-end)
 
--- src/responses.rt:196:11
-add-loop : tie.Need-add-loop Inv-loop μ-loop
-add-loop c = search needs
-
--- src/responses.rt:197:12
-is-settled-requires : tie.Need-is-settled-requires Inv-loop μ-loop
-is-settled-requires c κs =
-    let s = c .before .before .before .before .before .before .before .before in
-    let h = c .before .loop in
-    let less : h .k * (s .args .own .period - getD (s .args .costs .now) (s .args .own .place) 0) ≤ h .k * s .args .own .period = mul-le-mul-left (h .k) (omega arith) in
-    omega (arith, less, release-fits _ (s .pre .0) (job-counted _ (s .pre .1 .0) (h .k) (omega (arith, h .inv .0))))
-
--- src/responses.rt:198:13
-returns : tie.Need-returns Inv-loop μ-loop
-returns c =
-    let s = c .before .before .before .before .before .before .before .before .before .before in
-    let i = c .before .before in
-    let h = i .before .loop in
-    settled-as-tested _ (s .pre .0) (s .pre .1 .0) (s .pre .0 .own-cost) (h .k) (h .worst) (sym (c .before .is-settled .ensures) ∙ c .if1 .taken) (i .loop-test .taken) (h .inv .1)
-
--- src/responses.rt:200:13
+-- src/responses.rt:253:13
 least-within-requires : tie.Need-least-within-requires Inv-loop μ-loop
 least-within-requires c κs =
-    let i = c .before .before .before in
-    let h = i .before .loop in
-    let s = c .before .before .before .before .before .before .before .before .before .before .before in
-    let here = job-counted _ (s .pre .1 .0) (h .k) (omega arith) in
-    let next = job-counted _ (s .pre .1 .0) (h .k + 1) (i .loop-test .taken) in
-    (next-after _ (s .pre .0) here (h .inv .2) (h .inv .3) (h .inv .4), next-down _ (s .pre .0) here (h .inv .2) next)
+    let h = c .before .before .loop in
+    let s = c .before .before .before .before .before .before .before .before .before .before in
+    let here = job-counted _ (s .pre .1 .0) (h .k) (omega (arith, h .inv .0)) in
+    let next = job-counted _ (s .pre .1 .0) (h .k + 1) (omega (arith, c .before .loop-test .taken, h .inv .1)) in
+    (next-after _ (s .pre .0) here (h .inv .4) (h .inv .5) (h .inv .6), next-down _ (s .pre .0) here (h .inv .4) next)
 
--- src/responses.rt:201:12
+-- src/responses.rt:254:13
+latest-end-requires : tie.Need-latest-end-requires Inv-loop μ-loop
+latest-end-requires c κs =
+    let h = c .before .before .before .loop in
+    let s = c .before .before .before .before .before .before .before .before .before .before .before in
+    let here = job-counted _ (s .pre .1 .0) (h .k) (omega (arith, h .inv .0)) in
+    let next = job-counted _ (s .pre .1 .0) (h .k + 1) (omega (arith, c .before .before .loop-test .taken, h .inv .1)) in
+    (budget-by-its-end _ (s .pre .0) next (next-found _ (s .pre .0) here (h .inv .4) next (c .least-within .ensures .0)), omega (arith, s .pre .0 .own-cost, budget-at-most (seenBy (s .args .periods .now) (s .args .costs .now) (s .args .holdings .now) (s .args .ceilings .now) (s .args .own))), omega (arith, h .inv .4, end-small _ (s .pre .0) here, s .pre .0 .own-cost, s .pre .0 .fits, s .pre .0 .period-small))
+
+-- src/responses.rt:255:12
 may-be-worse-requires : tie.Need-may-be-worse-requires Inv-loop μ-loop
 may-be-worse-requires c κs =
-    let h = c .before .before .before .before .before .loop in
     let s = c .before .before .before .before .before .before .before .before .before .before .before .before in
-    let here = job-counted _ (s .pre .1 .0) (h .k) (omega arith) in
-    let next = job-counted _ (s .pre .1 .0) (h .k + 1) (omega arith) in
-    (release-fits _ (s .pre .0) here, budget-by-its-end _ (s .pre .0) next (next-found _ (s .pre .0) here (h .inv .2) next (c .least-within .ensures .0)))
+    let h = c .before .before .before .before .loop in
+    release-fits _ (s .pre .0) (job-counted _ (s .pre .1 .0) (h .k) (omega (arith, h .inv .0)))
 
--- src/responses.rt:202:17
+-- src/responses.rt:256:17
 job-response-requires : tie.Need-job-response-requires Inv-loop μ-loop
 job-response-requires c κs =
-    let h = c .before .before .before .before .before .before .before .loop in
+    let h = c .before .before .before .before .before .before .loop in
     let s = c .before .before .before .before .before .before .before .before .before .before .before .before .before .before in
-    (s .pre .0, (job-counted _ (s .pre .1 .0) (h .k) (omega arith), (h .inv .2, (h .inv .3, h .inv .4))))
+    (s .pre .0, (job-counted _ (s .pre .1 .0) (h .k) (omega (arith, h .inv .0)), (h .inv .4, (h .inv .5, h .inv .6))))
 
--- src/responses.rt:203:13
+-- src/responses.rt:257:13
 worse-requires : tie.Need-worse-requires Inv-loop μ-loop
 worse-requires c κs = search needs
 
--- src/responses.rt:206:9
+-- src/responses.rt:258:13
+settled-from-requires : tie.Need-settled-from-requires Inv-loop μ-loop
+settled-from-requires c κs = search needs
+
+-- src/responses.rt:261:9
 add-k : tie.Need-add-k Inv-loop μ-loop
 add-k c = search needs
 
--- src/responses.rt:196:5
+-- src/responses.rt:251:5
 loop-less : tie.Need-loop-less Inv-loop μ-loop
 loop-less c = search needs
 
--- src/responses.rt:196:5
+-- src/responses.rt:251:5
 loop-again : tie.Need-loop-again Inv-loop μ-loop
 loop-again c =
-    let w = c .before .before in
-    let h = c .before .before .before .before .before .before .before .loop in
+    let w = c .before .before .before in
+    let h = c .before .before .before .before .before .before .loop in
     let s = c .before .before .before .before .before .before .before .before .before .before .before .before .before .before in
-    let here = job-counted _ (s .pre .1 .0) (h .k) (omega arith) in
-    let after = job-counted _ (s .pre .1 .0) (h .k + 1) (omega arith) in
+    let here = job-counted _ (s .pre .1 .0) (h .k) (omega (arith, h .inv .0)) in
+    let after = job-counted _ (s .pre .1 .0) (h .k + 1) (omega (arith, c .before .before .before .before .before .loop-test .taken, h .inv .1)) in
     let first = job-counted _ (s .pre .1 .0) 0 (some-jobs _ (s .pre .0) (s .pre .1 .0)) in
-    let found = next-found _ (s .pre .0) here (h .inv .2) after (w .least-within .ensures .0) in (
-      omega arith,
-      ⊎-elim (λ j. rw (j .3) (worst-to-judged _ (h .k) (response-above-zero _ (s .pre .0) first) (h .worst) (h .inv .1) (j .1 .ensures) (j .2 .ensures)))
-          (λ j. rw (j .1) (passed-over _ (s .pre .0) (h .k) here after (h .worst) _ found (sym (c .before .may-be-worse .ensures) ∙ j .0 .left) (h .inv .1)))
-          (c .if2 .came),
+    let found = next-found _ (s .pre .0) here (h .inv .4) after (w .least-within .ensures .0) in
+    let at-latest = latest-holds _ (s .pre .0) (h .k) here after (h .inv .4) found (s .pre .0 .own-cost) _ (c .before .before .before .before .before .before .before .is-plain .ensures) (c .before .before .latest-end .ensures) in (
+      omega (arith, c .before .before .before .before .before .loop-test .taken, h .inv .1),
+      ⊎-elim (λ j. rw (j .5) (omega (arith, j .3 .ensures .0, some-jobs _ (s .pre .0) (s .pre .1 .0)))) (λ j. rw (j .2) (h .inv .1)) (c .if1 .came),
+      ⊎-elim (λ j. rw (j .4, j .5) (λ u. omega (arith, j .3 .ensures .1 (omega (arith, u))))) (λ j. rw (j .1, j .2) (h .inv .2)) (c .if1 .came),
+      ⊎-elim (λ j. rw (j .4) (worst-to-judged _ (h .k) (response-above-zero _ (s .pre .0) first) (h .worst) (h .inv .3) (j .1 .ensures) (j .2 .ensures)))
+          (λ j. rw (j .1) (passed-over _ (s .pre .0) (h .k) here (h .worst) _ at-latest (sym (c .before .may-be-worse .ensures) ∙ j .0 .left) (h .inv .3)))
+          (c .if1 .came),
       found,
       w .least-within .ensures .1 .0,
-      omega (arith, h .inv .4, w .least-within .ensures .1 .1),
+      omega (arith, h .inv .6, w .least-within .ensures .1 .1),
     )
 
--- src/responses.rt:208:9
+-- src/responses.rt:264:9
+returns : tie.Need-returns Inv-loop μ-loop
+returns c =
+    let h = c .before .before .loop in
+    let s = c .before .before .before .before .before .before .before .before .before .before in
+    settled-from _ (s .pre .0) (s .pre .1 .0) (s .pre .0 .own-cost) (h .until) (h .k) (h .worst) (h .inv .2 (omega (arith, c .if2 .taken))) (c .before .loop-test .left) (omega (arith, h .inv .0)) (h .inv .3)
+
+-- src/responses.rt:266:9
 job-response-requires-2 : tie.Need-job-response-requires-2 Inv-loop μ-loop
 job-response-requires-2 c κs =
-    let h = c .before .loop in
-    let s = c .before .before .before .before .before .before .before .before in
-    (s .pre .0, (job-counted _ (s .pre .1 .0) (h .k) (omega arith), (h .inv .2, (h .inv .3, h .inv .4))))
+    let h = c .before .before .loop in
+    let s = c .before .before .before .before .before .before .before .before .before .before in
+    (s .pre .0, (job-counted _ (s .pre .1 .0) (h .k) (omega (arith, h .inv .0)), (h .inv .4, (h .inv .5, h .inv .6))))
 
--- src/responses.rt:209:5
+-- src/responses.rt:267:5
 worse-requires-2 : tie.Need-worse-requires-2 Inv-loop μ-loop
 worse-requires-2 c κs = search needs
 
--- src/responses.rt:168:1
+-- src/responses.rt:220:1
 returns-2 : tie.Need-returns-2 Inv-loop μ-loop
 returns-2 c =
-    let h = c .before .before .before .loop in
-    let s = c .before .before .before .before .before .before .before .before .before .before in
+    let h = c .before .before .before .before .loop in
+    let s = c .before .before .before .before .before .before .before .before .before .before .before .before in
     let first = job-counted _ (s .pre .1 .0) 0 (some-jobs _ (s .pre .0) (s .pre .1 .0)) in
-    worst-of-all _ (h .k) _ _ (omega arith)
-    (worst-to-judged _ (h .k) (response-above-zero _ (s .pre .0) first) (h .worst) (h .inv .1) (c .before .job-response2 .ensures) (c .worse2 .ensures))
+    worst-of-all _ (h .k) _ _ (omega (arith, c .before .before .if2 .left, c .before .before .before .loop-test .left, h .inv .0, h .inv .1))
+    (worst-to-judged _ (h .k) (response-above-zero _ (s .pre .0) first) (h .worst) (h .inv .3) (c .before .job-response2 .ensures) (c .worse2 .ensures))
 
 pub largest-response-spec : {M : Type 1} → statement M
 largest-response-spec =
@@ -176,20 +181,21 @@ largest-response-spec =
     mul-cost
     shared-slice-read-cost
     sub-free
-    sub-room
+    sub-last
     mul-room
-    sub-room-2
+    sub-room
+    is-plain-requires
     loop-holds
-    add-loop
-    is-settled-requires
-    returns
     least-within-requires
+    latest-end-requires
     may-be-worse-requires
     job-response-requires
     worse-requires
+    settled-from-requires
     add-k
     loop-less
     loop-again
+    returns
     job-response-requires-2
     worse-requires-2
     returns-2)

@@ -1,8 +1,8 @@
 -- `global::responses::may_be_worse` compares in wide numbers, where nothing overflows. Assumes nothing.
-use Prim.Native.Nat.{_+_}
-use mathlib.Core.Path.{_≡_, ap₂}
-use lib.Dec.{ltb}
 use native.Mathlib.Omega.{arith}
+use Prim.Native.Nat.{_+_}
+use mathlib.Core.Path.{ap₂}
+use lib.Dec.{ltb}
 use borrow.Author.Needs.{needs}
 use Rattle.global.proofs.responses.may_be_worse.Statement.{statement}
 use Rattle.global.proofs.responses.may_be_worse.Tie as tie
@@ -10,35 +10,30 @@ use Rattle.global.proofs.responses.may_be_worse.Reads as reads
 use Rattle.global.proofs.responses.may_be_worse.Lts as lts
 use Rattle.numbers.proofs.wide.Reads as wide-reads
 
--- src/responses.rt:175:5
+-- src/responses.rt:195:5
 wide-requires : tie.Need-wide-requires
 wide-requires c κs = search needs
 
--- src/responses.rt:175:33
+-- src/responses.rt:195:33
 mul-wide : tie.Need-mul-wide
 mul-wide c = search needs
 
--- src/responses.rt:175:28
+-- src/responses.rt:195:28
 wide-requires-2 : tie.Need-wide-requires-2
 wide-requires-2 c κs = search needs
 
--- src/responses.rt:175:5
+-- src/responses.rt:195:5
 add-result : tie.Need-add-result
 add-result c = search needs
 
--- src/responses.rt:175:56
-sub-wide : tie.Need-sub-wide
-sub-wide c = search needs
-
--- src/responses.rt:175:51
+-- src/responses.rt:195:51
 wide-requires-3 : tie.Need-wide-requires-3
 wide-requires-3 c κs = search needs
 
--- src/responses.rt:171:1
+-- src/responses.rt:191:1
 returns : tie.Need-returns
-returns c = ap₂ ltb (ap₂ _+_ (c .before .before .before .before .wide .ensures .0) (c .before .before .wide2 .ensures .0)) (c .wide3 .ensures .0)
+returns c = ap₂ ltb (ap₂ _+_ (c .before .before .before .wide .ensures .0) (c .before .wide2 .ensures .0)) (c .wide3 .ensures .0)
 
 pub may-be-worse-spec : {M : Type 1} → statement M
 may-be-worse-spec =
-    tie.close
-    (tie.spec wide-requires mul-wide wide-requires-2 add-result sub-wide wide-requires-3 returns)
+    tie.close (tie.spec wide-requires mul-wide wide-requires-2 add-result wide-requires-3 returns)
