@@ -16,7 +16,7 @@ ghost use mathlib.Core.Path.{_≡_};
 ghost use Prim.Native.Nat.{_<_};
 ghost use Rattle.least.specs.Demand.{total};
 ghost use Rattle.least.specs.Search.{IsLeast};
-ghost use Rattle.least.specs.After.{afterwards};
+ghost use Rattle.least.specs.After.{afterwards, Frees};
 ghost use Rattle.global.specs.Interfaces.{interfacesIn};
 ghost use Rattle.global.specs.Blocking.{blocking};
 ghost use Rattle.global.specs.View.{viewOf, held};
@@ -60,6 +60,7 @@ pub fn jobs_of(
 {
     let periods = common.periods;
     let costs = common.costs;
+    let frees = common.frees;
     let blocking = blocking_in(lines, n, m, common, s);
     let mut ends = [0u32; Table::MOST];
     ends_at(&periods[..n], s + 1, 1, &mut ends);
@@ -67,10 +68,12 @@ pub fn jobs_of(
     let active = least_after(
         &periods[..n],
         &costs[..n],
+        &frees[..n],
         s + 1,
         &mut ends,
         1,
         blocking + once - 1,
+        0,
         Table::HORIZON,
     );
     if Table::HORIZON < active {
@@ -116,19 +119,30 @@ pub fn budget_end(
 {
     let periods = common.periods;
     let costs = common.costs;
+    let frees = common.frees;
     let ahead = ahead_of_job(lines, n, m, common, s, k) as u32;
     let mut ends = [0u32; Table::MOST];
-    least_within(&periods[..n], &costs[..n], s, &mut ends, 0, ahead)
+    least_within(
+        &periods[..n],
+        &costs[..n],
+        &frees[..n],
+        s,
+        &mut ends,
+        0,
+        ahead,
+        0,
+    )
 }
 
 // Where a job ends whose budget has ended at `end`: after `held` ticks more and whatever the first n loads ask for meanwhile.
-fn end_after(periods: &[u32], costs: &[u32], n: usize, end: u32, held: u32) -> u32
+fn end_after(periods: &[u32], costs: &[u32], frees: &[u32], n: usize, end: u32, held: u32) -> u32
     requires { ⌜ Budget-over (now periods) (now costs) n end held ⌝ }
+    requires { ⌜ Frees (now periods) (now costs) (now frees) n ⌝ }
     ensures { λ r. ⌜ IsLeast (total (now (periods .entry)) (now (costs .entry)) n (afterwards (now (periods .entry)) (now (costs .entry)) n end held)) r ⌝ }
 {
     let mut ends = [0u32; Table::MOST];
     ends_at(periods, n, end, &mut ends);
-    least_within(periods, costs, n, &mut ends, end, held)
+    least_within(periods, costs, frees, n, &mut ends, end, held, 0)
 }
 
 // The end of job k with resource l, which subsystem s holds for a time. The search goes on from where the budget ends.
@@ -150,11 +164,13 @@ pub fn job_end(
 {
     let periods = common.periods;
     let costs = common.costs;
+    let frees = common.frees;
     let ceilings = common.ceilings;
     let end = budget_end(lines, n, m, common, s, k);
     end_after(
         &periods[..n],
         &costs[..n],
+        &frees[..n],
         ceilings[l],
         end,
         interfaces::held(lines, s, l),

@@ -1,19 +1,21 @@
--- What the rows share, from its three parts; and the used part of an array that is filled up with 0. Assumes nothing.
-use Prim.Native.Nat.{ℕ, _-_, _<_}
-use mathlib.Core.Path.{_≡_, sym, ap, _∙_}
+-- What the rows share, from its four parts; and the used part of an array that is filled up with 0. Assumes nothing.
+use Prim.Native.Nat.{ℕ, _-_, _≤_, _<_}
+use native.Mathlib.Omega.{arith}
+use mathlib.Core.Path.{_≡_, sym, ap, ap₂, _∙_}
 use mathlib.Core.List.{List, _++_}
-use lib.ListN.{take, replicate}
+use lib.ListN.{length, getD, take, replicate}
 use lib.Seq.{take-at}
 use Rattle.lists.specs.Range.{upTo, padded}
-use Rattle.lists.proofs.UpTo.{length-upTo, upTo-ext}
+use Rattle.lists.proofs.UpTo.{length-upTo, upTo-ext, length-padded, getD-padded}
 use Rattle.table.specs.Limits.{most}
 use Rattle.global.specs.declared.ceilings.Common.{Common}
 use Rattle.global.specs.Interfaces.{periodAt, interfacesIn}
-use Rattle.global.specs.Parts.{count, periodOf, costOf}
+use Rattle.global.specs.Parts.{count, periodOf, costOf, freeOf}
 use Rattle.global.specs.Blocking.{outerCeiling}
 use Rattle.global.specs.Blocked.{ceilingIn}
 use Rattle.global.specs.Common.{commonOf}
-use Rattle.global.proofs.Slots.{count-of, period-of-slot}
+use Rattle.global.specs.Sound.{Sound}
+use Rattle.global.proofs.Slots.{few-of, count-of, period-of-slot}
 use Rattle.global.proofs.CeilingLaws.{ceiling-of-slots}
 
 -- An array that is filled up with 0 depends on the used part alone.
@@ -21,17 +23,36 @@ padded-ext : (f g : ℕ → ℕ) (n : ℕ) → ((i : ℕ) → i < n → f i ≡ 
 unfolding padded
 padded-ext f g n e = ap (λ (xs : List ℕ). xs ++ replicate (most - n) 0) (upTo-ext f g n e)
 
-pub common-is : (n m : ℕ) (lines : List (List ℕ)) (p c r : List ℕ) → p ≡ padded (periodAt lines) 0 most n → c ≡ padded (costOf (interfacesIn n m lines)) 0 most n → r ≡ padded (ceilingIn lines n) 0 most m → _≡_ {A = Common} (record { periods = p; costs = c; ceilings = r }) (commonOf (interfacesIn n m lines))
-unfolding commonOf interfacesIn
-common-is n m lines p c r e f h =
+pub common-is : (n m : ℕ) (lines : List (List ℕ)) (p c f r : List ℕ) → p ≡ padded (periodAt lines) 0 most n → c ≡ padded (costOf (interfacesIn n m lines)) 0 most n → f ≡ padded (λ t. getD p t 0 - getD c t 0) 0 most n → r ≡ padded (ceilingIn lines n) 0 most m → _≡_ {A = Common} (record { periods = p; costs = c; frees = f; ceilings = r }) (commonOf (interfacesIn n m lines))
+unfolding commonOf interfacesIn freeOf
+common-is n m lines p c d r e f g h =
     let same = sym (count-of n m lines) in
     let e2 : p ≡ padded (periodOf (interfacesIn n m lines)) 0 most (count (interfacesIn n m lines)) =
     e ∙ padded-ext _ _ n (λ s u. sym (period-of-slot n m lines s u)) ∙ ap (padded (periodOf (interfacesIn n m lines)) 0 most) same in
     let f2 : c ≡ padded (costOf (interfacesIn n m lines)) 0 most (count (interfacesIn n m lines)) =
     f ∙ ap (padded (costOf (interfacesIn n m lines)) 0 most) same in
+    let free-at : (s : ℕ) → s < n → getD p s 0 - getD c s 0 ≡ freeOf (interfacesIn n m lines) s =
+    λ s u. ap₂ _-_ (ap (λ (xs : List ℕ). getD xs s 0) e ∙ getD-padded (periodAt lines) 0 0 most n s u ∙ sym (period-of-slot n m lines s u)) (ap (λ (xs : List ℕ). getD xs s 0) f ∙ getD-padded (costOf (interfacesIn n m lines)) 0 0 most n s u) in
+    let g2 : d ≡ padded (freeOf (interfacesIn n m lines)) 0 most (count (interfacesIn n m lines)) =
+    g ∙ padded-ext _ _ n free-at ∙ ap (padded (freeOf (interfacesIn n m lines)) 0 most) same in
     let h2 : r ≡ padded (outerCeiling (interfacesIn n m lines)) 0 most m =
     h ∙ padded-ext _ _ m (ceiling-of-slots n m lines) in
-    λ i. record { periods = e2 i; costs = f2 i; ceilings = h2 i }
+    λ i. record { periods = e2 i; costs = f2 i; frees = g2 i; ceilings = h2 i }
+
+-- What is subtracted for the free ticks is there.
+pub frees-fit :
+    (n m : ℕ) (lines : List (List ℕ)) (p c : List ℕ) → Sound (interfacesIn n m lines) → p ≡ padded (periodAt lines) 0 most n → c ≡ padded (costOf (interfacesIn n m lines)) 0 most n →
+    ((n ≤ most) × (n ≤ length p) × (n ≤ length c)) × ((t : ℕ) → t < n → getD c t 0 ≤ getD p t 0)
+frees-fit n m lines p c sound e f =
+    let few = few-of n m lines sound in
+    ((few, omega (arith, ap length e, length-padded (periodAt lines) 0 most n few), omega (arith, ap length f, length-padded (costOf (interfacesIn n m lines)) 0 most n few)),
+    λ t u. omega (arith, at-slot (periodAt lines) e t u ∙ sym (period-of-slot n m lines t u), at-slot (costOf (interfacesIn n m lines)) f t u, fits t u))
+  where
+    at-slot : (g : ℕ → ℕ) {xs : List ℕ} → xs ≡ padded g 0 most n → (t : ℕ) → t < n → getD xs t 0 ≡ g t
+    at-slot g q t u = ap (λ (ys : List ℕ). getD ys t 0) q ∙ getD-padded g 0 0 most n t u
+
+    fits : (t : ℕ) → t < n → costOf (interfacesIn n m lines) t ≤ periodOf (interfacesIn n m lines) t
+    fits t u = unfold costOf in sound .fits t (rw (count-of n m lines) u)
 
 -- The used part.
 pub take-padded : (f : ℕ → ℕ) (n : ℕ) → take n (padded f 0 most n) ≡ upTo f n

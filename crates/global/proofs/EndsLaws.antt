@@ -10,7 +10,7 @@ use Rattle.lists.proofs.Over.{sumTo-at-most}
 use Rattle.least.specs.Up.{up}
 use Rattle.least.specs.Demand.{loadIn, demand, total}
 use Rattle.least.specs.Search.{Comes-down, IsLeast}
-use Rattle.least.specs.After.{afterwards, Waits, After, Found}
+use Rattle.least.specs.After.{afterwards, Waits, Frees, After, Found}
 use Rattle.least.proofs.Up.{up-at-most}
 use Rattle.least.proofs.Demand.{total-mono}
 use Rattle.least.proofs.Search.{stands-at-one, stands-next, least-is-one}
@@ -109,10 +109,10 @@ module _ (v : View) (sv : Sound-view v) {p c : List ℕ} (ep : p ≡ v .periods)
     pub ahead-small : ahead v k < 2 ^ 25
     ahead-small = omega (arith, jobs-fit v sv ct, budget-at-most v, active-within v sv (ct .is-active))
 
-    pub budget-lent : {a : ℕ} → a ≡ ahead v k → After p c (replicate most 0) (v .place) 0 a × Comes-down (total p c (v .place) (afterwards p c (v .place) 0 a))
-    budget-lent {a} e =
+    pub budget-lent : {a : ℕ} → a ≡ ahead v k → {f : List ℕ} → Frees p c f (v .place + 1) → After p c f (replicate most 0) (v .place) 0 a 0 × Comes-down (total p c (v .place) (afterwards p c (v .place) 0 a))
+    budget-lent {a} e {f} fr =
         rw (ep, ec)
-        (after-none v sv k e (omega (arith, ahead-small)), rw (all-ahead v sv a, e) (budget-comes-down v sv ct))
+        (after-none v sv k e (omega (arith, ahead-small)) {frees = f} (rw (ep, ec) at fr), rw (all-ahead v sv a, e) (budget-comes-down v sv ct))
 
     pub budget-at : {a z : ℕ} → a ≡ ahead v k → IsLeast (total p c (v .place) (afterwards p c (v .place) 0 a)) z → z ≡ budgetEnd v k
     budget-at {a} {z} e i = budget-found v sv ct (rw (ep, ec, all-ahead v sv a, e) at i)

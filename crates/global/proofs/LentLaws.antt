@@ -5,12 +5,13 @@ use mathlib.Core.Path.{_≡_, sym, ap, ap₂, _∙_}
 use mathlib.Core.List.{List}
 use lib.ListN.{length, getD, take}
 use Rattle.lists.specs.Range.{upTo}
-use Rattle.lists.proofs.UpTo.{getD-padded}
+use Rattle.lists.proofs.UpTo.{getD-padded, getD-upTo}
 use Rattle.least.specs.Search.{Loads}
+use Rattle.least.specs.After.{Frees}
 use Rattle.table.specs.Limits.{most}
 use Rattle.global.specs.declared.ceilings.Common.{Common}
 use Rattle.global.specs.Interfaces.{budgetAt, heldAt, interfacesIn}
-use Rattle.global.specs.Parts.{count, periods, costs, periodOf, costOf}
+use Rattle.global.specs.Parts.{count, periods, costs, periodOf, costOf, freeOf}
 use Rattle.global.specs.Blocking.{outerCeiling, blocking}
 use Rattle.global.specs.View.{viewOf, resources, held, ceiling, cost}
 use Rattle.global.specs.Ends.{ahead}
@@ -19,7 +20,7 @@ use Rattle.global.specs.Sound.{Sound, Sound-view, Counted}
 use Rattle.global.proofs.Slots.{some-of, few-of, few-resources-of, count-of, resources-of, budget-of-slot, holding-of-slot}
 use Rattle.global.proofs.ViewLaws.{view-sound, resources-seen, held-seen, ceiling-seen, cost-seen}
 use Rattle.global.proofs.BudgetEndLaws.{jobs-before-within}
-use Rattle.global.proofs.SeenLaws.{long-enough, used-part, shared-periods, shared-costs, shared-ceilings}
+use Rattle.global.proofs.SeenLaws.{long-enough, used-length, used-part, shared-periods, shared-costs, shared-frees, shared-ceilings}
 
 -- Sound interfaces with what their rows share.
 module _ (n m : ℕ) (lines : List (List ℕ)) (c : Common) (sound : Sound (interfacesIn n m lines)) (e : c ≡ commonOf (interfacesIn n m lines)) where
@@ -28,6 +29,9 @@ module _ (n m : ℕ) (lines : List (List ℕ)) (c : Common) (sound : Sound (inte
 
   pub costs-long : n ≤ length (c .costs)
   costs-long = long-enough _ _ (few-of n m lines sound) (shared-costs n m lines c e)
+
+  pub frees-long : n ≤ length (c .frees)
+  frees-long = long-enough _ _ (few-of n m lines sound) (shared-frees n m lines c e)
 
   pub ceilings-long : m ≤ length (c .ceilings)
   ceilings-long = long-enough _ _ (few-resources-of n m lines sound) (shared-ceilings n m lines c e)
@@ -69,6 +73,17 @@ module _ (n m : ℕ) (lines : List (List ℕ)) (c : Common) (sound : Sound (inte
       loads-lent : s + 1 ≡ n → Loads (take n (c .periods)) (take n (c .costs)) n
       unfolding viewOf
       loads-lent q = rw (periods-lent, costs-lent) (rw q at (lent-sound .fit .loads))
+
+      -- What the loads up to s leave free of their periods.
+      pub frees-lent : Frees (take n (c .periods)) (take n (c .costs)) (take n (c .frees)) (s + 1)
+      frees-lent =
+          record {
+            with-free = omega (arith, used-length n (c .frees) frees-long);
+            is-free = λ t u. rw (used-part _ _ (few-of n m lines sound) (shared-periods n m lines c e), costs-used, used-part _ _ (few-of n m lines sound) (shared-frees n m lines c e), getD-upTo (periodOf (interfacesIn n m lines)) n t 0 (omega arith), getD-upTo (costOf (interfacesIn n m lines)) n t 0 (omega arith), getD-upTo (freeOf (interfacesIn n m lines)) n t 0 (omega arith)) (parts t (omega arith));
+          }
+        where
+          parts : (t : ℕ) → t < n → freeOf (interfacesIn n m lines) t + costOf (interfacesIn n m lines) t ≡ periodOf (interfacesIn n m lines) t
+          parts t u = unfold freeOf costOf in omega (arith, sound .fits t (rw (count-of n m lines) u))
 
       pub period-lent : getD (c .periods) s 0 ≡ viewOf (interfacesIn n m lines) s .period
       unfolding viewOf

@@ -14,7 +14,7 @@ use Rattle.global.specs.declared.Row.{Row}
 use Rattle.global.specs.declared.ceilings.Common.{Common}
 use Rattle.global.specs.declared.responses.Own.{Own}
 use Rattle.global.specs.Interfaces.{InterfacesM, periodAt, budgetAt, heldAt, interfacesIn}
-use Rattle.global.specs.Parts.{count, periods, costs, periodOf, budgetOf, costOf}
+use Rattle.global.specs.Parts.{count, periods, costs, periodOf, budgetOf, costOf, freeOf}
 use Rattle.global.specs.Blocking.{outerCeiling, blocking}
 use Rattle.global.specs.View.{View, viewOf, resources, held, ceiling}
 use Rattle.global.specs.Ends.{activePeriod}
@@ -49,6 +49,10 @@ module _ (n m : ℕ) (lines : List (List ℕ)) (c : Common) (e : c ≡ commonOf 
   pub shared-costs : c .costs ≡ padded (costOf (interfacesIn n m lines)) 0 most n
   unfolding commonOf
   shared-costs = ap (λ (x : Common). x .costs) e ∙ ap (padded (costOf (interfacesIn n m lines)) 0 most) (count-of n m lines)
+
+  pub shared-frees : c .frees ≡ padded (freeOf (interfacesIn n m lines)) 0 most n
+  unfolding commonOf
+  shared-frees = ap (λ (x : Common). x .frees) e ∙ ap (padded (freeOf (interfacesIn n m lines)) 0 most) (count-of n m lines)
 
   pub shared-ceilings : c .ceilings ≡ padded (outerCeiling (interfacesIn n m lines)) 0 most m
   unfolding commonOf interfacesIn

@@ -11,12 +11,12 @@ use Rattle.least.specs.Up.{up}
 use Rattle.least.specs.Demand.{demand, total}
 use Rattle.least.specs.Least.{least}
 use Rattle.least.specs.Search.{Stands, Comes-down, IsLeast}
-use Rattle.least.specs.After.{Fit, EndsAt, afterwards, Waits, After, Found}
+use Rattle.least.specs.After.{Fit, EndsAt, afterwards, Waits, Frees, Starts, After, Found}
 use Rattle.least.proofs.Up.{up-pos, up-is-tight}
 use Rattle.least.proofs.Demand.{demand-suc, demand-at-none, total-mono}
 use Rattle.least.proofs.Search.{stands-next}
 use Rattle.least.proofs.LeastLaws.{least-found, least-nowhere}
-use Rattle.least.proofs.ClimbLaws.{fit-fewer, ends-at-none, ends-at-more}
+use Rattle.least.proofs.ClimbLaws.{fit-fewer, ends-at-none, ends-at-more, starts-nowhere}
 use Rattle.table.specs.Limits.{most, horizon}
 use Rattle.global.specs.Blocking.{numberOr}
 use Rattle.global.specs.View.{View, cost}
@@ -24,6 +24,10 @@ use Rattle.global.specs.Ends.{activePeriod, ahead, budgetEnd}
 use Rattle.global.specs.Sound.{Sound-view, Counted, First-end, Active}
 use Rattle.global.proofs.ActiveLaws.{budget-at-most, period-pos, higher-loads, activeTotal, active-total, active-within, some-job}
 use Rattle.global.proofs.BudgetEndLaws.{budgetTotal, budget-total, ahead-next, budget-floor, budget-end-is-least, budget-end-within, budget-end-parts, budget-comes-down, budget-found, next-starts}
+
+-- What the first m of n loads leave free.
+pub frees-fewer : {periods costs frees : List ℕ} {n : ℕ} (m : ℕ) → Frees periods costs frees n → m ≤ n → Frees periods costs frees m
+frees-fewer m f h = record { with-free = omega (arith, f .with-free); is-free = λ t u. f .is-free t (omega arith) }
 
 module _ (v : View) (sv : Sound-view v) where
   pub higher-fit : Fit (v .periods) (v .costs) (v .place)
@@ -43,12 +47,14 @@ module _ (v : View) (sv : Sound-view v) where
         small = omega arith;
       }
 
-  pub after-none : (k : ℕ) {a : ℕ} → a ≡ ahead v k → a < 2 ^ 25 → After (v .periods) (v .costs) (replicate most 0) (v .place) 0 a
-  after-none k {a} e small =
+  pub after-none : (k : ℕ) {a : ℕ} → a ≡ ahead v k → a < 2 ^ 25 → {frees : List ℕ} → Frees (v .periods) (v .costs) frees (v .place + 1) → After (v .periods) (v .costs) frees (replicate most 0) (v .place) 0 a 0
+  after-none k {a} e small fr =
       record {
         waits = waits-from-none k e small;
+        free = frees-fewer (v .place) fr (omega arith);
         with-end = rw length-replicate (omega (arith, sv .few));
         ends-at = ends-at-none (v .periods) (v .costs) (v .place) most higher-fit;
+        starts = starts-nowhere _ _;
       }
 
   -- Job 0 waits for B + Q besides.
@@ -79,12 +85,20 @@ module _ (v : View) (sv : Sound-view v) where
     abbrev own-cost : ℕ
     own-cost = getD (v .costs) (v .place) 0
 
-    pub next-after : {ends : List ℕ} → EndsAt (v .periods) ends (v .place) end → most ≤ length ends → After (v .periods) (v .costs) ends (v .place) end own-cost
-    next-after at room =
-        record { waits = rw (e, sv .own-cost) (waits-from-end ct); with-end = omega (arith, room, sv .few); ends-at = at }
-
     same-ahead : afterwards (v .periods) (v .costs) (v .place) end own-cost ≡ ahead v (k + 1)
     same-ahead = rw (e, sv .own-cost) (next-ahead ct)
+
+    pub next-after :
+        {ends frees : List ℕ} {start : ℕ} → EndsAt (v .periods) ends (v .place) end → most ≤ length ends → Frees (v .periods) (v .costs) frees (v .place + 1) →
+        Starts (total (v .periods) (v .costs) (v .place) (ahead v (k + 1))) (end + own-cost) start → After (v .periods) (v .costs) frees ends (v .place) end own-cost start
+    next-after at room fr st =
+        record {
+          waits = rw (e, sv .own-cost) (waits-from-end ct);
+          free = frees-fewer (v .place) fr (omega arith);
+          with-end = omega (arith, room, sv .few);
+          ends-at = at;
+          starts = rw same-ahead st;
+        }
 
     module _ (next : Counted v (k + 1)) where
       pub next-down : Comes-down (total (v .periods) (v .costs) (v .place) (afterwards (v .periods) (v .costs) (v .place) end own-cost))
@@ -178,10 +192,14 @@ module _ (v : View) (sv : Sound-view v) where
           small = omega (arith, own-small, own-holds, e .within, sv .period-small, sv .budget-pos);
         }
 
-    pub active-after : After (v .periods) (v .costs) (set ends (v .place) (up first (v .period) * v .period)) (v .place + 1) first (own - v .budget)
-    active-after =
+    pub active-after :
+        {frees : List ℕ} {start : ℕ} → Frees (v .periods) (v .costs) frees (v .place + 1) → Starts (activeTotal v) (first + (own - v .budget)) start →
+        After (v .periods) (v .costs) frees (set ends (v .place) (up first (v .period) * v .period)) (v .place + 1) first (own - v .budget) start
+    active-after fr st =
         record {
           waits = active-waits;
+          free = fr;
+          starts = rw blocking-left st;
           with-end = rw length-set (omega (arith, e .with-end, sv .few));
           ends-at =
               ends-at-more (v .periods) ends (v .place) first (up first (v .period) * v .period) (omega (arith, e .with-end, sv .few)) (e .ends-at)

@@ -4,7 +4,7 @@ use Rattle.lists.specs.Range.{padded}
 use Rattle.table.specs.Limits.{most}
 use Rattle.global.specs.declared.ceilings.Common.{Common}
 use Rattle.global.specs.Interfaces.{InterfacesM}
-use Rattle.global.specs.Parts.{count, periodOf, costOf}
+use Rattle.global.specs.Parts.{count, periodOf, costOf, freeOf}
 use Rattle.global.specs.Blocking.{outerCeiling}
 
 unfoldable pub commonOf : InterfacesM → Common
@@ -12,5 +12,6 @@ commonOf g =
     record {
       periods = padded (periodOf g) 0 most (count g);
       costs = padded (costOf g) 0 most (count g);
+      frees = padded (freeOf g) 0 most (count g);
       ceilings = padded (outerCeiling g) 0 most (g .resources);
     }

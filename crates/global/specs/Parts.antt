@@ -1,6 +1,6 @@
 -- The parts of interfaces by index, total: past the end everything is 0. Indices count from 0; document 01 counts from 1.
 -- Assumes nothing.
-use Prim.Native.Nat.{ℕ, _+_}
+use Prim.Native.Nat.{ℕ, _+_, _-_}
 use mathlib.Core.List.{List, []}
 use lib.ListN.{length, getD}
 use Rattle.lists.specs.Range.{largestTo, upTo}
@@ -34,6 +34,10 @@ holding g s = largestTo (holdingOf g s) (g .resources)
 -- Q(s) + X(s).
 unfoldable pub costOf : InterfacesM → ℕ → ℕ
 costOf g s = budgetOf g s + holding g s
+
+-- What that leaves free of P(s).
+unfoldable pub freeOf : InterfacesM → ℕ → ℕ
+freeOf g s = periodOf g s - costOf g s
 
 -- The loads that the subsystems are to each other: once in each period P(s), Q(s) + X(s) ticks.
 unfoldable pub periods : InterfacesM → List ℕ

@@ -6,9 +6,9 @@ use crate::interfaces::period;
 use numbers::longer;
 use table::Table;
 ghost use mathlib.Core.Path.{_≡_};
-ghost use Prim.Native.Nat.{_<_, _≤_};
+ghost use Prim.Native.Nat.{ℕ, _-_, _<_, _≤_};
 ghost use Rattle.lists.specs.Range.{largestTo, padded};
-ghost use lib.ListN.{length, take};
+ghost use lib.ListN.{length, getD, take};
 ghost use Rattle.least.specs.Share.{Fitting};
 ghost use Rattle.least.specs.Search.{Loads};
 ghost use Rattle.table.specs.Limits.{most};
@@ -18,11 +18,12 @@ ghost use Rattle.global.specs.Blocked.{ceilingIn};
 ghost use Rattle.global.specs.Common.{commonOf};
 ghost use Rattle.global.specs.Sound.{Sound};
 
-// What the rows of all subsystems share: P(s) and Q(s) + X(s) of each subsystem, and RC(l) of each resource. Slots past the
-// counts are 0.
+// What the rows of all subsystems share: P(s), Q(s) + X(s) and what that leaves free of P(s), of each subsystem, and RC(l) of each
+// resource. Slots past the counts are 0.
 pub struct Common {
     pub periods: [u32; Table::MOST],
     pub costs: [u32; Table::MOST],
+    pub frees: [u32; Table::MOST],
     pub ceilings: [usize; Table::MOST],
 }
 
@@ -83,6 +84,25 @@ fn costs_of(lines: &[[u32; WIDTH]; Table::MOST], n: usize, m: usize) -> [u32; Ta
     costs
 }
 
+// What each of n subsystems leaves free of its period.
+fn frees_of(
+    periods: [u32; Table::MOST],
+    costs: [u32; Table::MOST],
+    n: usize,
+) -> [u32; Table::MOST]
+    requires { ⌜ (n ≤ most) × (n ≤ length periods) × (n ≤ length costs) ⌝ }
+    requires { ⌜ ((t : ℕ) → t < n → getD costs t 0 ≤ getD periods t 0) ⌝ }
+    ensures { λ r. ⌜ r ≡ padded (λ t. getD periods t 0 - getD costs t 0) 0 most n ⌝ }
+{
+    let mut frees = [0u32; Table::MOST];
+    let mut s: usize = 0;
+    while s < n {
+        frees[s] = periods[s] - costs[s];
+        s += 1;
+    }
+    frees
+}
+
 // The outer ceiling of each of m resources.
 fn ceilings_of(lines: &[[u32; WIDTH]; Table::MOST], n: usize, m: usize) -> [usize; Table::MOST]
     requires { ⌜ (1 ≤ n) × (n ≤ most) × (m ≤ most) ⌝ }
@@ -102,9 +122,12 @@ pub fn in_common(lines: &[[u32; WIDTH]; Table::MOST], n: usize, m: usize) -> Com
     requires { ⌜ Sound (interfacesIn n m (now lines)) ⌝ }
     ensures { λ r. ⌜ r ≡ commonOf (interfacesIn n m (now (lines .entry))) ⌝ }
 {
+    let periods = periods_of(lines, n);
+    let costs = costs_of(lines, n, m);
     Common {
-        periods: periods_of(lines, n),
-        costs: costs_of(lines, n, m),
+        periods,
+        costs,
+        frees: frees_of(periods, costs, n),
         ceilings: ceilings_of(lines, n, m),
     }
 }

@@ -10,7 +10,7 @@ ghost use lib.Dec.{ltb};
 ghost use lib.ListN.{length};
 ghost use Rattle.least.specs.Demand.{total};
 ghost use Rattle.least.specs.Search.{IsLeast};
-ghost use Rattle.least.specs.After.{EndsAt, afterwards};
+ghost use Rattle.least.specs.After.{Frees, EndsAt, afterwards};
 ghost use Rattle.table.specs.Limits.{most};
 ghost use Rattle.global.specs.Response.{responseWith};
 ghost use Rattle.global.specs.Ends.{budgetEnd};
@@ -76,6 +76,7 @@ fn worse(worst: Worst, job: Job, k: u32) -> Worst
 fn response_with(
     periods: &[u32],
     costs: &[u32],
+    frees: &[u32],
     n: usize,
     ends: [u32; Table::MOST],
     end: u32,
@@ -85,16 +86,18 @@ fn response_with(
     requires { ⌜ EndsAt (now periods) ends n end × (most ≤ length ends) ⌝ }
     requires { ⌜ Budget-over (now periods) (now costs) n end held ⌝ }
     requires { ⌜ release ≤ end ⌝ }
+    requires { ⌜ Frees (now periods) (now costs) (now frees) n ⌝ }
     ensures { λ r. ⌜ IsLeast (total (now (periods .entry)) (now (costs .entry)) n (afterwards (now (periods .entry)) (now (costs .entry)) n end held)) (r + release) ⌝ }
 {
     let mut reached = ends;
-    least_within(periods, costs, n, &mut reached, end, held) - release
+    least_within(periods, costs, frees, n, &mut reached, end, held, 0) - release
 }
 
 // The largest response of job k, whose budget ends at `end`, over the resources that are held, and the lowest of these that has it.
 fn best_response(
     periods: &[u32],
     costs: &[u32],
+    frees: &[u32],
     holdings: &[u32],
     ceilings: &[usize],
     own: Own,
@@ -106,6 +109,7 @@ fn best_response(
     requires { ⌜ Counted (seenBy (now periods) (now costs) (now holdings) (now ceilings) own) k ⌝ }
     requires { ⌜ end ≡ budgetEnd (seenBy (now periods) (now costs) (now holdings) (now ceilings) own) k ⌝ }
     requires { ⌜ EndsAt (now periods) ends (own .place) end × (most ≤ length ends) ⌝ }
+    requires { ⌜ Frees (now periods) (now costs) (now frees) (own .place + 1) ⌝ }
     ensures { λ r. ⌜ r ≡ bestOf (responseWith (seenBy (now (periods .entry)) (now (costs .entry)) (now (holdings .entry)) (now (ceilings .entry)) own) k) (length (now (holdings .entry))) ⌝ }
 {
     let mut best = Best { value: 0, at: 0 };
@@ -117,7 +121,7 @@ fn best_response(
             continue;
         }
         let release = k * own.period;
-        let response = response_with(periods, costs, ceilings[l], ends, end, held, release);
+        let response = response_with(periods, costs, frees, ceilings[l], ends, end, held, release);
         best = better(best, response, l);
         l += 1;
     }
@@ -128,6 +132,7 @@ fn best_response(
 fn job_response(
     periods: &[u32],
     costs: &[u32],
+    frees: &[u32],
     holdings: &[u32],
     ceilings: &[usize],
     own: Own,
@@ -139,6 +144,7 @@ fn job_response(
     requires { ⌜ Counted (seenBy (now periods) (now costs) (now holdings) (now ceilings) own) k ⌝ }
     requires { ⌜ end ≡ budgetEnd (seenBy (now periods) (now costs) (now holdings) (now ceilings) own) k ⌝ }
     requires { ⌜ EndsAt (now periods) ends (own .place) end × (most ≤ length ends) ⌝ }
+    requires { ⌜ Frees (now periods) (now costs) (now frees) (own .place + 1) ⌝ }
     ensures { λ r. ⌜ r ≡ jobOf (seenBy (now (periods .entry)) (now (costs .entry)) (now (holdings .entry)) (now (ceilings .entry)) own) k ⌝ }
 {
     let s = own.place;
@@ -149,7 +155,7 @@ fn job_response(
             resource: 0,
         };
     }
-    let best = best_response(periods, costs, holdings, ceilings, own, k, end, ends);
+    let best = best_response(periods, costs, frees, holdings, ceilings, own, k, end, ends);
     Job {
         end,
         response: best.value,
@@ -216,6 +222,7 @@ fn settled_from(worst: Worst, room: u32, free: u32, last: u32) -> u32
 pub(crate) fn largest_response(
     periods: &[u32],
     costs: &[u32],
+    frees: &[u32],
     holdings: &[u32],
     ceilings: &[usize],
     own: Own,
@@ -227,6 +234,7 @@ pub(crate) fn largest_response(
     requires { ⌜ Sound-view (seenBy (now periods) (now costs) (now holdings) (now ceilings) own) ⌝ }
     requires { ⌜ Jobs (seenBy (now periods) (now costs) (now holdings) (now ceilings) own) active n ⌝ }
     requires { ⌜ First-end (seenBy (now periods) (now costs) (now holdings) (now ceilings) own) ends first ⌝ }
+    requires { ⌜ Frees (now periods) (now costs) (now frees) (own .place + 1) ⌝ }
     ensures { λ r. ⌜ r ≡ worstOf (seenBy (now (periods .entry)) (now (costs .entry)) (now (holdings .entry)) (now (ceilings .entry)) own) n ⌝ }
 {
     let s = own.place;
@@ -246,10 +254,10 @@ pub(crate) fn largest_response(
     let mut until = last;
     while k < until {
         let before = reached;
-        let next = least_within(periods, costs, s, &mut reached, end, cost);
+        let next = least_within(periods, costs, frees, s, &mut reached, end, cost, 0);
         let latest = latest_end(own, plain, cost, end, next);
         if may_be_worse(own, worst, k, latest) {
-            let job = job_response(periods, costs, holdings, ceilings, own, k, end, before);
+            let job = job_response(periods, costs, frees, holdings, ceilings, own, k, end, before);
             worst = worse(worst, job, k);
             until = settled_from(worst, room, free, last);
         }
@@ -259,6 +267,6 @@ pub(crate) fn largest_response(
     if until < last {
         return worst;
     }
-    let job = job_response(periods, costs, holdings, ceilings, own, k, end, reached);
+    let job = job_response(periods, costs, frees, holdings, ceilings, own, k, end, reached);
     worse(worst, job, k)
 }

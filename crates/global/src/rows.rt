@@ -15,8 +15,9 @@ use table::Table;
 ghost use mathlib.Core.Path.{_≡_};
 ghost use mathlib.Core.Option.{none, some};
 ghost use lib.ListN.{take};
+ghost use Rattle.least.specs.After.{Frees};
 ghost use Rattle.least.specs.Share.{Fitting};
-ghost use Prim.Native.Nat.{_-_, _≤_, _<_};
+ghost use Prim.Native.Nat.{_+_, _-_, _≤_, _<_};
 ghost use Rattle.global.specs.Interfaces.{interfacesIn};
 ghost use Rattle.global.specs.declared.Outcome.the-variants.{None};
 ghost use Rattle.global.specs.Ends.{activePeriod};
@@ -40,6 +41,7 @@ fn judge(period: u32, response: u32) -> Outcome
 fn active_row(
     periods: &[u32],
     costs: &[u32],
+    frees: &[u32],
     holdings: &[u32],
     ceilings: &[usize],
     own: Own,
@@ -51,6 +53,7 @@ fn active_row(
     requires { ⌜ Sound-view (seenBy (now periods) (now costs) (now holdings) (now ceilings) own) ⌝ }
     requires { ⌜ activePeriod (seenBy (now periods) (now costs) (now holdings) (now ceilings) own) ≡ some active ⌝ }
     requires { ⌜ First-end (seenBy (now periods) (now costs) (now holdings) (now ceilings) own) ends first ⌝ }
+    requires { ⌜ Frees (now periods) (now costs) (now frees) (own .place + 1) ⌝ }
     ensures { λ r. ⌜ r ≡ rowFor (seenBy (now (periods .entry)) (now (costs .entry)) (now (holdings .entry)) (now (ceilings .entry)) own) failing (some active) ⌝ }
 {
     let s = own.place;
@@ -58,6 +61,7 @@ fn active_row(
     let worst = largest_response(
         periods,
         costs,
+        frees,
         holdings,
         ceilings,
         own,
@@ -100,6 +104,7 @@ fn row_without(own: Own, cost: u32, failing: u32) -> Row
 fn active_from(
     periods: &[u32],
     costs: &[u32],
+    frees: &[u32],
     holdings: &[u32],
     ceilings: &[usize],
     own: Own,
@@ -108,6 +113,7 @@ fn active_from(
 ) -> u32
     requires { ⌜ Sound-view (seenBy (now periods) (now costs) (now holdings) (now ceilings) own) ⌝ }
     requires { ⌜ First-end (seenBy (now periods) (now costs) (now holdings) (now ceilings) own) ends first ⌝ }
+    requires { ⌜ Frees (now periods) (now costs) (now frees) (own .place + 1) ⌝ }
     ensures { λ r. ⌜ Active (seenBy (now (periods .entry)) (now (costs .entry)) (now (holdings .entry)) (now (ceilings .entry)) own) r ⌝ }
 {
     let s = own.place;
@@ -118,10 +124,12 @@ fn active_from(
     least_after(
         periods,
         costs,
+        frees,
         s + 1,
         &mut reached,
         first,
         more,
+        0,
         Table::HORIZON,
     )
 }
@@ -131,6 +139,7 @@ fn active_from(
 fn row_seen(
     periods: &[u32],
     costs: &[u32],
+    frees: &[u32],
     holdings: &[u32],
     ceilings: &[usize],
     own: Own,
@@ -139,6 +148,7 @@ fn row_seen(
 ) -> Row
     requires { ⌜ Sound-view (seenBy (now periods) (now costs) (now holdings) (now ceilings) own) ⌝ }
     requires { ⌜ (fits ≤ own .place → activePeriod (seenBy (now periods) (now costs) (now holdings) (now ceilings) own) ≡ none) ⌝ }
+    requires { ⌜ Frees (now periods) (now costs) (now frees) (own .place + 1) ⌝ }
     ensures { λ r. ⌜ r ≡ rowFor (seenBy (now (periods .entry)) (now (costs .entry)) (now (holdings .entry)) (now (ceilings .entry)) own) failing (activePeriod (seenBy (now (periods .entry)) (now (costs .entry)) (now (holdings .entry)) (now (ceilings .entry)) own)) ⌝ }
 {
     let s = own.place;
@@ -148,17 +158,18 @@ fn row_seen(
     }
     let mut ends = [0u32; Table::MOST];
     let ahead = own.blocking + own.budget;
-    let first = least_after(periods, costs, s, &mut ends, 0, ahead, Table::HORIZON);
+    let first = least_after(periods, costs, frees, s, &mut ends, 0, ahead, 0, Table::HORIZON);
     if Table::HORIZON < first {
         return row_without(own, cost, failing);
     }
-    let active = active_from(periods, costs, holdings, ceilings, own, first, ends);
+    let active = active_from(periods, costs, frees, holdings, ceilings, own, first, ends);
     if Table::HORIZON < active {
         return row_without(own, cost, failing);
     }
     active_row(
         periods,
         costs,
+        frees,
         holdings,
         ceilings,
         own,
@@ -188,6 +199,7 @@ pub fn row_of(
 {
     let periods = common.periods;
     let costs = common.costs;
+    let frees = common.frees;
     let ceilings = common.ceilings;
     let held = leading(lines, s, &ceilings[..m]);
     let own = Own {
@@ -199,6 +211,7 @@ pub fn row_of(
     row_seen(
         &periods[..n],
         &costs[..n],
+        &frees[..n],
         &held[..m],
         &ceilings[..m],
         own,

@@ -1,114 +1,101 @@
 -- Laws of a load that has fallen behind: how often it must ask again to be ahead, and that a load without a free tick never is.
 -- Assumes nothing.
-use Prim.Native.Nat.{ℕ, suc, _+_, _-_, _*_, _^_, _≤_, _<_}
-use native.Mathlib.Nat.{mul-add, mul-le-mul-right, mul-le-mul, lt-of-le-of-lt, suc-mul}
+use Prim.Native.Nat.{ℕ, _+_, _-_, _*_, _^_, _≤_, _<_}
+use native.Mathlib.Nat.{mul-add, mul-le-mul-right, mul-le-mul, lt-of-le-of-lt}
 use native.Mathlib.Omega.{arith}
-use mathlib.Core.Path.{_≡_, refl, ap, _∙_}
+use mathlib.Core.Path.{_≡_, refl, sym, ap, _∙_}
 use mathlib.Core.Logic.{⊎-elim}
+use mathlib.Core.List.{List}
 use lib.Dec.{lit<}
+use lib.ListN.{getD, set, length-set}
 use Rattle.lists.proofs.Over.{le-or-lt}
 use Rattle.least.specs.Up.{up}
 use Rattle.least.specs.Search.{reach}
-use Rattle.least.specs.After.{Ahead, Within, CaughtUp}
-use Rattle.least.specs.declared.after.Caught.{Caught}
+use Rattle.least.specs.After.{Ahead, Behind, CaughtUp}
 use Rattle.least.proofs.Up.{up-holds, up-is-tight, up-is-least, up-at-most}
 
-module _ (end x period cost bound : ℕ) (late : end < x) where
+module _ (ends : List ℕ) (t x period cost free bound : ℕ) (b : Behind (getD ends t 0) x period cost free bound) where
+  abbrev end : ℕ
+  end = getD ends t 0
+
   -- It must ask at least once.
   at-least-once : (p : ℕ) → Ahead end x period cost p → 1 ≤ p
   at-least-once p a =
       ⊎-elim (λ (h : 1 ≤ p). h)
       (λ (h : p < 1).
       let none : p ≡ 0 = omega arith in
-      absurd (omega (arith, a, ap (λ (k : ℕ). k * cost) none, ap (λ (k : ℕ). k * period) none)))
+      absurd (omega (arith, b .late, a, ap (λ (k : ℕ). k * cost) none, ap (λ (k : ℕ). k * period) none)))
       (le-or-lt 1 p)
 
   -- Once is enough.
-  pub once : x + cost ≤ end + period → CaughtUp end x period cost bound (record { end = end + period; x = x + cost })
+  pub once : x - end ≤ free → CaughtUp ends t x period cost bound (set ends t (end + period)) (x + cost)
   once h =
       record {
-        least = λ _. (1, omega arith, omega arith, omega arith, at-least-once);
-        too-much = λ b p a. omega (arith, mul-le-mul-right cost (at-least-once p a));
+        least = λ _. (1, ap (λ (e : ℕ). set ends t e) (omega arith), omega arith, omega (arith, b .parts), at-least-once);
+        too-much = λ u p a. omega (arith, mul-le-mul-right cost (at-least-once p a));
+        same-length = length-set ends t (end + period);
       }
 
+  -- A period is its cost and its free ticks.
+  by-parts : (k : ℕ) → k * period ≡ k * free + k * cost
+  by-parts k = ap (λ (y : ℕ). k * y) (sym (b .parts)) ∙ mul-add k free cost
+
   -- Without a free tick it is never ahead.
-  pub never : Within bound end x period cost → cost ≤ period → period ≤ cost → CaughtUp end x period cost bound (record { end = end; x = reach })
-  never within fits full =
-      let same : period ≡ cost = omega arith in
-      let behind : (p : ℕ) → Ahead end x period cost p → ⊥ = λ p a. omega (arith, a, ap (λ (k : ℕ). p * k) same) in
-      let small : bound < reach = ⊎-elim (λ (u : bound < reach). u) (λ u. absurd (behind (u .0) (u .1))) within in
-      record { least = λ b. absurd (omega arith); too-much = λ b p a. absurd (behind p a) }
+  pub never : free ≡ 0 → CaughtUp ends t x period cost bound ends reach
+  never none =
+      let behind : (p : ℕ) → Ahead end x period cost p → ⊥ = λ p a. omega (arith, b .late, a, by-parts p, ap (λ (k : ℕ). p * k) none) in
+      let small : bound < reach = ⊎-elim (λ (u : bound < reach). u) (λ u. absurd (behind (u .0) (u .1))) (b .within) in
+      record { least = λ u. absurd (omega arith); too-much = λ u p a. absurd (behind p a); same-length = refl }
 
-  module _ (behind : end + period < x + cost) (free : cost < period) where
-    abbrev again : ℕ
-    again = up (x + cost - (end + period)) (period - cost)
+  module _ (some : 1 ≤ free) where
+    abbrev times : ℕ
+    times = up (x - end) free
 
-    -- A period is its cost and its free ticks.
-    by-parts : (k : ℕ) → k * period ≡ k * (period - cost) + k * cost
-    by-parts k = ap (λ (y : ℕ). k * y) (omega arith) ∙ mul-add k (period - cost) cost
+    ahead : Ahead end x period cost times
+    ahead = omega (arith, b .late, by-parts times, up-holds (x - end) free some)
 
-    pub ahead-again : x + cost + again * cost ≤ end + period + again * period
-    ahead-again = omega (arith, by-parts again, up-holds (x + cost - (end + period)) (period - cost) (omega arith))
-
-    again-least : (p : ℕ) → Ahead end x period cost p → again + 1 ≤ p
-    again-least p a =
-        let once-more : 1 ≤ p = at-least-once p a in
-        let q : ℕ = p - 1 in
-        let whole : p ≡ suc q = omega arith in
-        let costs : p * cost ≡ q * cost + cost = ap (λ (k : ℕ). k * cost) whole ∙ suc-mul q cost in
-        let ends : p * period ≡ q * period + period = ap (λ (k : ℕ). k * period) whole ∙ suc-mul q period in
-        let least : again ≤ q = up-is-least (x + cost - (end + period)) (period - cost) q (omega arith) (omega (arith, a, costs, ends, by-parts q)) in
-        omega arith
+    times-least : (p : ℕ) → Ahead end x period cost p → times ≤ p
+    times-least p a = up-is-least (x - end) free p some (omega (arith, a, by-parts p))
 
     -- Where it catches up within reach, this does.
-    least-asked : (p : ℕ) → Ahead end x period cost p → x + cost + again * cost ≤ x + p * cost
-    least-asked p a =
-        let fewer : (again + 1) * cost ≤ p * cost = mul-le-mul-right cost (again-least p a) in
-        let next : again + 1 ≡ suc again = omega arith in
-        let more : (again + 1) * cost ≡ again * cost + cost = ap (λ (j : ℕ). j * cost) next ∙ suc-mul again cost in
-        omega (arith, fewer, more)
+    least-asked : (p : ℕ) → Ahead end x period cost p → x + times * cost ≤ x + p * cost
+    least-asked p a = omega (arith, mul-le-mul-right cost (times-least p a))
 
-    pub in-reach : Within bound end x period cost → x + cost + again * cost ≤ bound → x + cost + again * cost < reach
-    in-reach within h =
-        ⊎-elim (λ (u : bound < reach). omega arith) (λ u. omega (arith, least-asked (u .0) (u .1), u .2)) within
+    pub in-reach : x + times * cost ≤ bound → x + times * cost < reach
+    in-reach h =
+        ⊎-elim (λ (u : bound < reach). omega arith) (λ u. omega (arith, least-asked (u .0) (u .1), u .2)) (b .within)
 
-    bound-small : Within bound end x period cost → bound < x + cost + again * cost → bound < reach
-    bound-small within h =
-        ⊎-elim (λ (u : bound < reach). u) (λ u. omega (arith, least-asked (u .0) (u .1), u .2)) within
+    bound-small : bound < x + times * cost → bound < reach
+    bound-small h =
+        ⊎-elim (λ (u : bound < reach). u) (λ u. omega (arith, least-asked (u .0) (u .1), u .2)) (b .within)
 
     -- Sums and products fit.
-    pub again-small : x < 2 ^ 25 → period < 2 ^ 20 → again < 2 ^ 26
-    again-small u v = omega (arith, up-at-most (x + cost - (end + period)) (period - cost) (omega arith))
+    times-small : times < 2 ^ 25
+    times-small = omega (arith, b .small, up-at-most (x - end) free some)
 
-    pub again-costs : x < 2 ^ 25 → period < 2 ^ 20 → again * cost < 2 ^ 46
-    again-costs u v =
-        lt-of-le-of-lt (mul-le-mul {n₂ = 67108863} {m₂ = 1048575} (omega (arith, again-small u v)) (omega arith)) (lit< {m = 67108863 * 1048575} {n = 2 ^ 46} tt)
+    pub costs-small : times * cost < 2 ^ 45
+    costs-small =
+        lt-of-le-of-lt (mul-le-mul {n₂ = 33554431} {m₂ = 1048575} (omega (arith, times-small)) (omega (arith, b .parts, b .period-small))) (lit< {m = 33554431 * 1048575} {n = 2 ^ 45} tt)
 
-    pub again-ends : x < 2 ^ 25 → period < 2 ^ 20 → x + cost + again * cost < reach → end + period + again * period < 2 ^ 32
-    again-ends u v h =
-        omega (arith, by-parts again, up-is-tight (x + cost - (end + period)) (period - cost) (omega arith))
+    pub ends-small : x + times * cost < reach → end + times * period < 2 ^ 32
+    ends-small h =
+        omega (arith, b .late, b .small, b .parts, b .period-small, by-parts times, up-is-tight (x - end) free some)
 
     -- It asks as often as it takes.
-    pub as-often : x + cost + again * cost ≤ bound → CaughtUp end x period cost bound (record { end = end + period + again * period; x = x + cost + again * cost })
+    pub as-often : x + times * cost ≤ bound → CaughtUp ends t x period cost bound (set ends t (end + times * period)) (x + times * cost)
     as-often h =
         record {
-          least = λ _. (again + 1, omega (arith, more period), omega (arith, more cost), omega (arith, ahead-again, more period, more cost), again-least);
-          too-much = λ b p a. absurd (omega arith);
+          least = λ _. (times, refl, refl, ahead, times-least);
+          too-much = λ u p a. absurd (omega arith);
+          same-length = length-set ends t (end + times * period);
         }
-      where
-        more : (k : ℕ) → (again + 1) * k ≡ again * k + k
-        more k = ap (λ (j : ℕ). j * k) (omega arith) ∙ suc-mul again k
 
     -- Where that is too much, no number of times is within the bound.
-    pub out-of-bound : Within bound end x period cost → bound < x + cost + again * cost → CaughtUp end x period cost bound (record { end = end; x = reach })
-    out-of-bound within h =
-        let small = bound-small within h in
+    pub out-of-bound : bound < x + times * cost → CaughtUp ends t x period cost bound ends reach
+    out-of-bound h =
+        let small = bound-small h in
         record {
-          least = λ b. absurd (omega arith);
-          too-much =
-              λ b p a.
-              let q : ℕ = p - 1 in
-              let whole : p ≡ suc q = omega (arith, at-least-once p a) in
-              let fewer : again * cost ≤ q * cost = mul-le-mul-right cost (omega (arith, again-least p a)) in
-              omega (arith, ap (λ (k : ℕ). k * cost) whole ∙ suc-mul q cost);
+          least = λ u. absurd (omega arith);
+          too-much = λ u p a. omega (arith, least-asked p a);
+          same-length = refl;
         }

@@ -1,6 +1,6 @@
 -- Laws of a search that keeps for each load how often it has asked: never more often than by any solution, so what there is to do
 -- is never more than a solution; and once every load is ahead, that is the least solution. Assumes nothing.
-use Prim.Native.Nat.{ℕ, zero, suc, _+_, _-_, _*_, _≤_, _<_}
+use Prim.Native.Nat.{ℕ, zero, suc, _+_, _-_, _*_, _^_, _≤_, _<_}
 use native.Mathlib.Nat.{zero-mul, add-mul, mul-le-mul-right, eq-or-lt-of-le}
 use native.Mathlib.Numerals.{add-one}
 use native.Mathlib.Omega.{arith}
@@ -14,12 +14,11 @@ use lib.Dec.{eqb}
 use lib.ListN.{length, getD, set, replicate}
 use lib.Seq.{getD-set-same}
 use Rattle.lists.specs.Range.{sumTo}
-use Rattle.lists.proofs.Over.{le-or-lt, sumTo-zero, sumTo-suc, sumTo-ext, sumTo-mono}
+use Rattle.lists.proofs.Over.{le-or-lt, sumTo-suc, sumTo-ext, sumTo-mono}
 use Rattle.least.specs.Up.{up}
 use Rattle.least.specs.Demand.{loadIn, demand, total}
 use Rattle.least.specs.Search.{Comes-down, IsLeast, reach}
-use Rattle.least.specs.After.{Fit, Periods, EndsAt, afterwards, After, Bounded, Found, Ahead, Within, CaughtUp}
-use Rattle.least.specs.declared.after.Caught.{Caught}
+use Rattle.least.specs.After.{Fit, Periods, EndsAt, afterwards, Frees, Starts, After, Bounded, Found, Ahead, Within, Behind, CaughtUp, Advanced}
 use Rattle.least.proofs.Up.{up-holds, up-is-least, up-mono, up-zero}
 use Rattle.least.proofs.Demand.{total-mono, loads-fewer}
 use Rattle.least.proofs.Search.{stands-below, least-exists}
@@ -94,24 +93,40 @@ pub record Climbing (periods costs ends : List ℕ) (n constant x : ℕ) : Type 
 abbrev pub Quiet : List ℕ → ℕ → ℕ → ℕ → Type 0
 Quiet ends x a b = (t : ℕ) → a ≤ t → t < b → x ≤ getD ends t 0
 
-module _ (periods costs ends : List ℕ) (n y more : ℕ) (a : After periods costs ends n y more) where
-  whole-sum : y + more ≡ afterwards periods costs n y more + sumTo (λ (t : ℕ). up y (getD periods t 0) * getD costs t 0) n
-  unfolding demand loadIn
-  whole-sum = omega (arith, a .waits .asked)
+-- Without a number to start at, a search has none that it may stand at.
+pub starts-nowhere : (f : ℕ → ℕ) (x : ℕ) → Starts f x 0
+starts-nowhere f x = record { stands = λ h. absurd (omega arith); within = omega arith }
 
-  -- Where the search begins, each load has asked as often as it does by y.
+-- Each load has asked as often as it does by y, and no solution is before y.
+climbs-at : (periods costs ends : List ℕ) (n constant y x : ℕ) → Fit periods costs n → EndsAt periods ends n y → 1 ≤ x → x ≡ total periods costs n constant y → ((z : ℕ) → 1 ≤ z → z ≡ total periods costs n constant z → y ≤ z) → Climbing periods costs ends n constant x
+unfolding total demand loadIn
+climbs-at periods costs ends n constant y x f ends-at from sum later =
+    record {
+      count = λ t. up y (getD periods t 0);
+      from = from;
+      whole = ends-at;
+      sum = sum;
+      below = λ z h e t u. up-mono (getD periods t 0) (f .loads .period-pos t u) (later z h e);
+    }
+
+module _ (periods costs frees ends : List ℕ) (n y more start : ℕ) (a : After periods costs frees ends n y more start) where
+  by-y : y + more ≡ total periods costs n (afterwards periods costs n y more) y
+  unfolding total
+  by-y = omega (arith, a .waits .asked)
+
+  -- The search begins where each load has asked as often as it does by y.
   pub climbs-from : Climbing periods costs ends n (afterwards periods costs n y more) (y + more)
   climbs-from =
-      record {
-        count = λ t. up y (getD periods t 0);
-        from = a .waits .stands .from;
-        whole = a .ends-at;
-        sum = whole-sum;
-        below =
-            λ z h e t u.
-            up-mono (getD periods t 0) (a .waits .fit .loads .period-pos t u)
-            (omega (arith, stands-below (total periods costs n (afterwards periods costs n y more)) (a .waits .stands) h (omega (arith, e))));
-      }
+      climbs-at periods costs ends n (afterwards periods costs n y more) y (y + more) (a .waits .fit) (a .ends-at) (a .waits .stands .from) by-y
+      (λ z h e. omega (arith, stands-below (total periods costs n (afterwards periods costs n y more)) (a .waits .stands) h (omega (arith, e))))
+
+  -- Or, further on, where each has asked as often as it does by `start`.
+  pub climbs-start : {after : List ℕ} {r : ℕ} → Advanced periods costs ends n (y + more) start after r → y + more < start → Climbing periods costs after n (afterwards periods costs n y more) r
+  climbs-start {after} {r} g u =
+      let s = a .starts .stands u in
+      let sum : r ≡ total periods costs n (afterwards periods costs n y more) start = g .to-do y (afterwards periods costs n y more) (omega arith) (a .ends-at) by-y in
+      climbs-at periods costs after n (afterwards periods costs n y more) start r (a .waits .fit) (g .ends-at y (omega arith) (a .ends-at)) (omega (arith, sum, s .from, s .rises)) sum
+      (λ z h e. stands-below (total periods costs n (afterwards periods costs n y more)) s h (omega (arith, e)))
 
   -- The total begins above 0.
   pub total-starts : 1 ≤ total periods costs n (afterwards periods costs n y more) 1
@@ -215,47 +230,64 @@ module _ (periods costs ends : List ℕ) (n constant x : ℕ) (f : Fit periods c
         let (z, below, least) = least-exists (total periods costs n constant) (total-mono periods costs n constant (f .loads)) one (d .top) (d .from) (d .down) in
         inr (left z (least .from) (least .solution), left-ahead z (least .from) (least .solution), omega (arith, left-within z (least .from) (least .solution), below, d .within))
 
-    module _ (bound : ℕ) (r : Caught) (g : CaughtUp (getD ends t 0) x (getD periods t 0) (getD costs t 0) bound r) where
+    -- Where its last period has ended before x, load t has fallen behind.
+    pub falls-behind : {frees : List ℕ} (bound : ℕ) → Frees periods costs frees n → getD ends t 0 < x → x < 2 ^ 25 → 1 ≤ total periods costs n constant 1 → Bounded (total periods costs n constant) bound → Behind (getD ends t 0) x (getD periods t 0) (getD costs t 0) (getD frees t 0) bound
+    falls-behind bound g late small one bounded =
+        record {
+          late = late;
+          small = small;
+          within = caught-within bound one bounded;
+          cost-pos = f .cost-pos t u;
+          parts = g .is-free t u;
+          period-small = f .period-small t u;
+        }
+
+    module _ (bound : ℕ) (after : List ℕ) (r : ℕ) (g : CaughtUp ends t x (getD periods t 0) (getD costs t 0) bound after r) where
       -- Where catching up is too much, every solution is.
-      pub no-solution : bound < r .x → (z : ℕ) → 1 ≤ z → z ≡ total periods costs n constant z → bound < z
-      no-solution b z h e = omega (arith, g .too-much b (left z h e) (left-ahead z h e), left-within z h e)
+      pub no-solution : bound < r → Found periods costs after n constant bound r
+      no-solution b =
+          record {
+            at = λ h. absurd (omega arith);
+            ends-at = λ h. absurd (omega arith);
+            beyond = λ _ z h e. omega (arith, g .too-much b (left z h e) (left-ahead z h e), left-within z h e);
+          }
 
       -- Else the search goes on with that load ahead.
-      pub climbs-on : t < length ends → r .x ≤ bound → Climbing periods costs (set ends t (r .end)) n constant (r .x)
+      pub climbs-on : t < length ends → r ≤ bound → Climbing periods costs after n constant r
       climbs-on room b =
           let (q, er, ex, ahead, least) = g .least b in
           record {
             count = raised (c .count) t q;
             from = omega (arith, ex, c .from);
-            whole = whole-on q er;
+            whole = λ j v. ap (λ (l : List ℕ). getD l j 0) er ∙ whole-on q (getD ends t 0 + q * getD periods t 0) refl j v;
             sum = omega (arith, ex, c .sum, with-more q);
             below = λ z h e. still-below q z h e (omega (arith, least (left z h e) (left-ahead z h e), all-asked z h e));
           }
         where
-          whole-on : (q : ℕ) → r .end ≡ getD ends t 0 + q * getD periods t 0 → (j : ℕ) → j < n → getD (set ends t (r .end)) j 0 ≡ raised (c .count) t q j * getD periods j 0
-          whole-on q er j v = go (le-or-lt j t) (le-or-lt t j)
+          whole-on : (q k : ℕ) → k ≡ getD ends t 0 + q * getD periods t 0 → (j : ℕ) → j < n → getD (set ends t k) j 0 ≡ raised (c .count) t q j * getD periods j 0
+          whole-on q k er j v = go (le-or-lt j t) (le-or-lt t j)
             where
               times : raised (c .count) t q t * getD periods t 0 ≡ c .count t * getD periods t 0 + q * getD periods t 0
-              times = ap (λ (k : ℕ). k * getD periods t 0) (raised-at (c .count) t q) ∙ add-mul (c .count t) q (getD periods t 0)
+              times = ap (λ (i : ℕ). i * getD periods t 0) (raised-at (c .count) t q) ∙ add-mul (c .count t) q (getD periods t 0)
 
-              off : (j ≡ t → ⊥) → getD (set ends t (r .end)) j 0 ≡ getD ends j 0 → getD (set ends t (r .end)) j 0 ≡ raised (c .count) t q j * getD periods j 0
-              off w k = k ∙ c .whole j v ∙ sym (ap (λ (i : ℕ). i * getD periods j 0) (raised-off (c .count) t q j w))
+              off : (j ≡ t → ⊥) → getD (set ends t k) j 0 ≡ getD ends j 0 → getD (set ends t k) j 0 ≡ raised (c .count) t q j * getD periods j 0
+              off w i = i ∙ c .whole j v ∙ sym (ap (λ (m : ℕ). m * getD periods j 0) (raised-off (c .count) t q j w))
 
-              go : (j ≤ t) ⊎ (t < j) → (t ≤ j) ⊎ (j < t) → getD (set ends t (r .end)) j 0 ≡ raised (c .count) t q j * getD periods j 0
-              go (inr w) k = off (λ (p : j ≡ t). omega arith) (read-above ℕ ends t j (r .end) 0 (getD ends j 0) w refl)
-              go (inl w) (inr k) = off (λ (p : j ≡ t). omega arith) (read-below ℕ ends t j (r .end) 0 (getD ends j 0) k refl)
-              go (inl w) (inl k) =
+              go : (j ≤ t) ⊎ (t < j) → (t ≤ j) ⊎ (j < t) → getD (set ends t k) j 0 ≡ raised (c .count) t q j * getD periods j 0
+              go (inr w) i = off (λ (p : j ≡ t). omega arith) (read-above ℕ ends t j k 0 (getD ends j 0) w refl)
+              go (inl w) (inr i) = off (λ (p : j ≡ t). omega arith) (read-below ℕ ends t j k 0 (getD ends j 0) i refl)
+              go (inl w) (inl i) =
                   let same : j ≡ t = omega arith in
-                  rw same (getD-set-same ends t (r .end) 0 room ∙ er ∙ ap (λ (i : ℕ). i + q * getD periods t 0) (c .whole t u) ∙ sym times)
+                  rw same (getD-set-same ends t k 0 room ∙ er ∙ ap (λ (m : ℕ). m + q * getD periods t 0) (c .whole t u) ∙ sym times)
 
       -- It is ahead, and what there is to do has grown.
-      pub now-ahead : t < length ends → r .x ≤ bound → Quiet (set ends t (r .end)) (r .x) t (t + 1)
-      now-ahead room b j v w =
+      pub now-ahead : t < length ends → r ≤ bound → r ≤ getD after t 0
+      now-ahead room b =
           let (q, er, ex, ahead, least) = g .least b in
-          let same : j ≡ t = omega arith in
-          rw (same, getD-set-same ends t (r .end) 0 room) (omega (arith, er, ex, ahead))
+          let moved : getD after t 0 ≡ getD ends t 0 + q * getD periods t 0 = ap (λ (l : List ℕ). getD l t 0) er ∙ getD-set-same ends t (getD ends t 0 + q * getD periods t 0) 0 room in
+          omega (arith, moved, ex, ahead)
 
-      pub grows : getD ends t 0 < x → r .x ≤ bound → x < r .x
+      pub grows : getD ends t 0 < x → r ≤ bound → x < r
       grows late b =
           let (q, er, ex, ahead, least) = g .least b in
           let some : 1 * getD costs t 0 ≤ q * getD costs t 0 = mul-le-mul-right (getD costs t 0) (at-once q ahead) in
@@ -268,6 +300,15 @@ module _ (periods costs ends : List ℕ) (n constant x : ℕ) (f : Fit periods c
               let none : q ≡ 0 = omega arith in
               absurd (omega (arith, ahead, ap (λ (i : ℕ). i * getD costs t 0) none, ap (λ (i : ℕ). i * getD periods t 0) none)))
               (le-or-lt 1 q)
+
+  -- Where there is more to do than the bound, no solution is within it.
+  pub too-far : (bound : ℕ) → bound < x → Found periods costs ends n constant bound x
+  too-far bound b =
+      record {
+        at = λ h. absurd (omega arith);
+        ends-at = λ h. absurd (omega arith);
+        beyond = λ _ z h e. omega (arith, at-most-solution z h e);
+      }
 
   -- Once every load is ahead, the search has found the least solution.
   module _ (one : 1 ≤ total periods costs n constant 1) (quiet : Quiet ends x 0 n) where

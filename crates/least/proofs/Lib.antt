@@ -6,3 +6,5 @@ pub mod LeastLaws
 pub mod ShareLaws
 pub mod CatchLaws
 pub mod ClimbLaws
+pub mod AdvanceLaws
+pub mod RoundLaws

@@ -1,7 +1,7 @@
--- Loads that ask for more than every tick has are never done: what they ask for in x ticks is more than x, whatever x is.
--- Assumes nothing.
-use Prim.Native.Nat.{ℕ, zero, suc, _+_, _*_, _/_, _≤_, _<_}
-use native.Mathlib.Nat.{div-mul-le-self, lt-of-mul-lt-mul-right, mul-le-mul-left, mul-le-mul-right, mul-add, mul-assoc, mul-comm, mul-zero}
+-- Loads that ask for more than every tick has are never done: what they ask for in x ticks is more than x, whatever x is. And
+-- where they leave something of every tick, their shares say how far on a search may stand. Assumes nothing.
+use Prim.Native.Nat.{ℕ, zero, suc, _+_, _-_, _*_, _/_, _≤_, _<_}
+use native.Mathlib.Nat.{div-mul-le-self, lt-of-mul-lt-mul-right, mul-le-mul-left, mul-le-mul-right, mul-add, mul-assoc, mul-comm, mul-zero, suc-mul}
 use native.Mathlib.Omega.{arith}
 use mathlib.Core.Path.{_≡_, ap, _∙_}
 use mathlib.Core.Option.{none}
@@ -11,9 +11,10 @@ use Rattle.lists.specs.Range.{sumTo}
 use Rattle.lists.proofs.Over.{sumTo-zero, sumTo-suc, sumTo-longer}
 use Rattle.least.specs.Up.{up}
 use Rattle.least.specs.Demand.{loadIn, demand, total}
-use Rattle.least.specs.Share.{unit, shareOf, shares, Fitting}
+use Rattle.least.specs.Share.{unit, shareOf, shares, Fitting, standingAt}
 use Rattle.least.specs.Least.{least}
-use Rattle.least.specs.Search.{Loads}
+use Rattle.least.specs.Search.{Loads, Stands, reach}
+use Rattle.least.specs.After.{Starts}
 use Rattle.least.proofs.Up.{up-holds}
 use Rattle.least.proofs.Demand.{loads-fewer}
 use Rattle.least.proofs.LeastLaws.{least-passed}
@@ -73,3 +74,43 @@ module _ (periods costs : List ℕ) where
   pub no-least-beyond : {n r s : ℕ} → Fitting periods costs n r → r ≤ s → s < n → Loads periods costs (s + 1) → (constant bound : ℕ) → least periods costs (s + 1) constant bound ≡ none
   no-least-beyond {n} {r} {s} f h u l =
       no-least (s + 1) l (omega (arith, f .over (omega arith), shares-longer (r + 1) (s + 1) (omega arith)))
+
+------------------------------------------------------------------------
+-- Where a search may stand by the shares: the loads ask for their share of every tick, so that up to the quotient nothing is above
+-- the total.
+
+module _ (periods costs : List ℕ) (n constant spare : ℕ) (l : Loads periods costs n) (e : spare ≡ unit - shares periods costs n) (some : 1 ≤ spare) where
+  abbrev reached : ℕ
+  reached = constant * unit / spare
+
+  by-parts : (y : ℕ) → y * unit ≡ y * spare + y * shares periods costs n
+  by-parts y = ap (λ (z : ℕ). y * z) (omega (arith, e, some)) ∙ mul-add y spare (shares periods costs n)
+
+  up-to : (y : ℕ) → y ≤ reached → y * spare ≤ constant * unit
+  up-to y u = omega (arith, mul-le-mul-right spare u, div-mul-le-self (constant * unit) spare)
+
+  reached-stands : (r : ℕ) → 1 ≤ r → r ≤ reached → Stands (total periods costs n constant) r
+  unfolding total
+  reached-stands r h u =
+      record {
+        from = h;
+        rises = omega (arith, by-parts r, up-to r u, shares-hold periods costs n r l);
+        before = λ y k w. omega (arith, by-parts y, up-to (suc y) (omega arith), suc-mul y spare, some, shares-hold periods costs n y l);
+      }
+
+pub standing-starts : (periods costs : List ℕ) (n constant spare x r : ℕ) → Loads periods costs n → spare ≡ unit - shares periods costs n → 1 ≤ spare → r ≡ standingAt constant spare → Starts (total periods costs n constant) x r
+unfolding standingAt
+standing-starts periods costs n constant spare x r l e some is =
+    record {
+      stands = λ h. reached-stands periods costs n constant spare l e some r (omega arith) (omega (arith, is));
+      within = omega (arith, is);
+    }
+
+-- As the code works it out.
+pub standing-beyond : (constant spare q : ℕ) → q ≡ constant * unit / spare → reach < q → reach ≡ standingAt constant spare
+unfolding standingAt
+standing-beyond constant spare q e h = omega (arith, e)
+
+pub standing-there : (constant spare q : ℕ) → q ≡ constant * unit / spare → q ≤ reach → q ≡ standingAt constant spare
+unfolding standingAt
+standing-there constant spare q e h = omega (arith, e)

@@ -4,11 +4,10 @@ use Prim.Native.Nat.{ℕ, _+_, _-_, _*_, _^_, _≤_, _<_}
 use mathlib.Core.Path.{_≡_}
 use mathlib.Core.Logic.{_⊎_}
 use mathlib.Core.List.{List}
-use lib.ListN.{length, getD}
+use lib.ListN.{length, getD, set}
 use Rattle.least.specs.Up.{up}
 use Rattle.least.specs.Demand.{demand, total}
 use Rattle.least.specs.Search.{Loads, Stands, Comes-down, IsLeast, reach}
-use Rattle.least.specs.declared.after.Caught.{Caught}
 
 -- Loads that ask for something and for no more than their period, which is below 2 ^ 20.
 pub record Fit (periods costs : List ℕ) (n : ℕ) : Type 0 where
@@ -45,11 +44,23 @@ pub record Waits (periods costs : List ℕ) (n y more : ℕ) : Type 0 where
   pub stands : Stands (total periods costs n (afterwards periods costs n y more)) (y + more)
   pub small : y + more < 2 ^ 25
 
--- That search has the ends of the periods begun by y before it.
-pub record After (periods costs ends : List ℕ) (n y more : ℕ) : Type 0 where
+-- What each of the first n loads leaves free of its period.
+pub record Frees (periods costs frees : List ℕ) (n : ℕ) : Type 0 where
+  pub with-free : n ≤ length frees
+  pub is-free : (t : ℕ) → t < n → getD frees t 0 + getD costs t 0 ≡ getD periods t 0
+
+-- No solution lies before `start`, where that is further on than the search has come: it may stand there. 0 stands for no such number.
+pub record Starts (f : ℕ → ℕ) (x start : ℕ) : Type 0 where
+  pub stands : x < start → Stands f start
+  pub within : start ≤ reach
+
+-- That search has the ends of the periods begun by y before it, what the loads leave free, and where it may stand.
+pub record After (periods costs frees ends : List ℕ) (n y more start : ℕ) : Type 0 where
   pub waits : Waits periods costs n y more
+  pub free : Frees periods costs frees n
   pub with-end : n ≤ length ends
   pub ends-at : EndsAt periods ends n y
+  pub starts : Starts (total periods costs n (afterwards periods costs n y more)) (y + more) start
 
 -- The bound of a search is within reach, or a solution is.
 abbrev pub Bounded : (ℕ → ℕ) → ℕ → Type 0
@@ -71,7 +82,25 @@ Ahead end x period cost q = x + q * cost ≤ end + q * period
 abbrev pub Within : (bound end x period cost : ℕ) → Type 0
 Within bound end x period cost = (bound < reach) ⊎ ((p : ℕ) × Ahead end x period cost p × (x + p * cost < reach))
 
--- It asks as often as it takes, where that leaves no more to do than the bound; else it would be too much.
-pub record CaughtUp (end x period cost bound : ℕ) (r : Caught) : Type 0 where
-  pub least : r .x ≤ bound → (q : ℕ) × (r .end ≡ end + q * period) × (r .x ≡ x + q * cost) × Ahead end x period cost q × ((p : ℕ) → Ahead end x period cost p → q ≤ p)
-  pub too-much : bound < r .x → (p : ℕ) → Ahead end x period cost p → bound < x + p * cost
+-- Such a load, with what it leaves free of its period. Numbers are small enough for sums to fit.
+pub record Behind (end x period cost free bound : ℕ) : Type 0 where
+  pub late : end < x
+  pub small : x < 2 ^ 25
+  pub within : Within bound end x period cost
+  pub cost-pos : 1 ≤ cost
+  pub parts : free + cost ≡ period
+  pub period-small : period < 2 ^ 20
+
+-- Load t asks as often as it takes, where that leaves no more to do than the bound, and its end moves on; else it would be too much,
+-- and the ends do not matter. What there is then to do is r.
+pub record CaughtUp (ends : List ℕ) (t x period cost bound : ℕ) (after : List ℕ) (r : ℕ) : Type 0 where
+  pub least : r ≤ bound → (q : ℕ) × (after ≡ set ends t (getD ends t 0 + q * period)) × (r ≡ x + q * cost) × Ahead (getD ends t 0) x period cost q × ((p : ℕ) → Ahead (getD ends t 0) x period cost p → q ≤ p)
+  pub too-much : bound < r → (p : ℕ) → Ahead (getD ends t 0) x period cost p → bound < x + p * cost
+  pub same-length : length after ≡ length ends
+
+-- Each load asks on until its last period ends at or after `start`. Where the ends were those of the periods begun by y, and x was what
+-- there is to do by then, they are those of the periods begun by `start`, and r is what there is to do by that.
+pub record Advanced (periods costs ends : List ℕ) (n x start : ℕ) (after : List ℕ) (r : ℕ) : Type 0 where
+  pub ends-at : (y : ℕ) → y ≤ start → EndsAt periods ends n y → EndsAt periods after n start
+  pub to-do : (y constant : ℕ) → y ≤ start → EndsAt periods ends n y → x ≡ total periods costs n constant y → r ≡ total periods costs n constant start
+  pub same-length : length after ≡ length ends

@@ -6,47 +6,46 @@ use crate::round_up;
 use numbers::wide;
 ghost use mathlib.Core.Path.{_≡_};
 ghost use Prim.Native.Nat.{_^_, _≤_, _<_};
-ghost use lib.ListN.{length};
+ghost use lib.ListN.{length, getD};
 ghost use Rattle.least.specs.Demand.{total};
 ghost use Rattle.least.specs.Search.{Comes-down, IsLeast, reach};
-ghost use Rattle.least.specs.After.{Periods, EndsAt, slots, afterwards, After, Bounded, Found, Within, CaughtUp};
+ghost use Rattle.least.specs.After.{Fit, Periods, EndsAt, slots, afterwards, After, Bounded, Found, Behind, CaughtUp, Advanced};
 
 // How many loads a search may have.
 pub const SLOTS: usize = 8;
 
-// Where a load's last period ends once it has caught up, and what there is then to do.
-pub struct Caught {
-    pub end: u32,
-    pub x: u32,
-}
-
-// A load whose last period has ended before x asks again until it is ahead: most often once, else as often as the ticks that its
-// periods leave free make up for what it is behind. A load that leaves none free never is.
-fn caught_up(end: u32, x: u32, period: u32, cost: u32, bound: u64) -> Caught
-    requires { ⌜ (end < x) × (x < 2 ^ 25) × Within bound end x period cost ⌝ }
-    requires { ⌜ (1 ≤ cost) × (cost ≤ period) × (period < 2 ^ 20) ⌝ }
-    ensures { λ r. ⌜ CaughtUp end x period cost bound r ⌝ }
+// Load t, whose last period has ended before x, asks again until it is ahead: most often once, else as often as the ticks that its
+// periods leave free make up for what it is behind. A load that leaves none free never is. What there is then to do; above the
+// bound where it would be too much.
+fn ask(
+    periods: &[u32],
+    costs: &[u32],
+    frees: &[u32],
+    t: usize,
+    ends: &mut [u32; SLOTS],
+    x: u32,
+    bound: u64,
+) -> u32
+    requires { ⌜ (t < slots) × (t < length (now periods)) × (t < length (now costs)) × (t < length (now frees)) × (t < length (now ends)) ⌝ }
+    requires { ⌜ Behind (getD (now ends) t 0) x (getD (now periods) t 0) (getD (now costs) t 0) (getD (now frees) t 0) bound ⌝ }
+    ensures { λ r. ⌜ CaughtUp (now (ends .entry)) t x (getD (now (periods .entry)) t 0) (getD (now (costs .entry)) t 0) bound (now (ends .exit)) r ⌝ }
 {
-    let next = end + period;
-    let asked = x + cost;
-    if asked <= next {
-        return Caught {
-            end: next,
-            x: asked,
-        };
+    let end = ends[t];
+    let behind = x - end;
+    if behind <= frees[t] {
+        ends[t] = end + periods[t];
+        return x + costs[t];
     }
-    if period <= cost {
-        return Caught { end, x: REACH };
+    if frees[t] == 0 {
+        return REACH;
     }
-    let again = round_up(asked - next, period - cost);
-    let reached = wide(asked) + wide(again) * wide(cost);
+    let times = round_up(behind, frees[t]);
+    let reached = wide(x) + wide(times) * wide(costs[t]);
     if bound < reached {
-        return Caught { end, x: REACH };
+        return REACH;
     }
-    Caught {
-        end: next + again * period,
-        x: reached as u32,
-    }
+    ends[t] = end + times * periods[t];
+    reached as u32
 }
 
 // Into `ends`: where the last period of each of the first n loads ends that begins within y ticks.
@@ -62,45 +61,79 @@ pub fn ends_at(periods: &[u32], n: usize, y: u32, ends: &mut [u32; SLOTS])
     }
 }
 
-// The search: the least solution after y ticks, with `more` ticks to do besides the first n loads, where it is at most the bound; else
-// something above the bound. The bound is within reach, or a solution is, and then any bound will do. `ends` holds the ends of the periods begun by y, and then of those begun by the solution. Loads from
-// `stop` on are ahead of x, and so are those from `from` up to t: a turn that has changed nothing before `stop` is the last.
-fn climb(
+// On to `start`, where the search may stand: each load asks as often as it does by then. What there is then to do, where it is x now.
+fn advanced(
     periods: &[u32],
     costs: &[u32],
     n: usize,
     ends: &mut [u32; SLOTS],
+    x: u32,
+    start: u32,
+) -> u32
+    requires { ⌜ Fit (now periods) (now costs) n × (n ≤ slots) × (n ≤ length (now ends)) ⌝ }
+    requires { ⌜ (x < reach) × (start ≤ reach) ⌝ }
+    ensures { λ r. ⌜ Advanced (now (periods .entry)) (now (costs .entry)) (now (ends .entry)) n x start (now (ends .exit)) r ⌝ }
+{
+    let mut sum = x;
+    let mut t: usize = 0;
+    while t < n {
+        if ends[t] < start {
+            let times = round_up(start - ends[t], periods[t]);
+            ends[t] += times * periods[t];
+            sum += times * costs[t];
+        }
+        t += 1;
+    }
+    sum
+}
+
+// The search: the least solution after y ticks, with `more` ticks to do besides the first n loads, where it is at most the bound; else
+// something above the bound. The bound is within reach, or a solution is, and then any bound will do. No solution lies before
+// `start`. `ends` holds the ends of the periods begun by y, and then of those begun by the solution. It goes round the loads, and is
+// done when it comes back to the one that asked last: all are ahead then.
+fn climb(
+    periods: &[u32],
+    costs: &[u32],
+    frees: &[u32],
+    n: usize,
+    ends: &mut [u32; SLOTS],
     y: u32,
     more: u32,
+    start: u32,
     bound: u64,
 ) -> u32
-    requires { ⌜ After (now periods) (now costs) (now ends) n y more ⌝ }
+    requires { ⌜ After (now periods) (now costs) (now frees) (now ends) n y more start ⌝ }
     requires { ⌜ Bounded (total (now periods) (now costs) n (afterwards (now periods) (now costs) n y more)) bound ⌝ }
     ensures { λ r. ⌜ Found (now (periods .entry)) (now (costs .entry)) (now (ends .exit)) n (afterwards (now (periods .entry)) (now (costs .entry)) n y more) bound r ⌝ }
     ensures { λ r. ⌜ length (now (ends .exit)) ≡ length (now (ends .entry)) ⌝ }
 {
     let mut x = y + more;
-    let mut stop = n;
-    loop {
-        let mut from: usize = 0;
-        let mut t: usize = 0;
-        while t < stop {
-            if ends[t] < x {
-                let caught = caught_up(ends[t], x, periods[t], costs[t], bound);
-                if bound < wide(caught.x) {
-                    return caught.x;
-                }
-                ends[t] = caught.end;
-                x = caught.x;
-                from = t;
-                stop = n;
-            }
-            t += 1;
-        }
-        if from == 0 {
+    if x < start {
+        x = advanced(periods, costs, n, ends, x, start);
+        if bound < wide(x) {
             return x;
         }
-        stop = from;
+    }
+    if n == 0 {
+        return x;
+    }
+    let mut last: usize = 0;
+    let mut t: usize = 0;
+    loop {
+        if ends[t] < x {
+            x = ask(periods, costs, frees, t, ends, x, bound);
+            if bound < wide(x) {
+                return x;
+            }
+            last = t;
+        }
+        t += 1;
+        if t == n {
+            t = 0;
+        }
+        if t == last {
+            return x;
+        }
     }
 }
 
@@ -108,33 +141,37 @@ fn climb(
 pub fn least_after(
     periods: &[u32],
     costs: &[u32],
+    frees: &[u32],
     n: usize,
     ends: &mut [u32; SLOTS],
     y: u32,
     more: u32,
+    start: u32,
     bound: u32,
 ) -> u32
-    requires { ⌜ After (now periods) (now costs) (now ends) n y more ⌝ }
+    requires { ⌜ After (now periods) (now costs) (now frees) (now ends) n y more start ⌝ }
     requires { ⌜ bound < reach ⌝ }
     ensures { λ r. ⌜ Found (now (periods .entry)) (now (costs .entry)) (now (ends .exit)) n (afterwards (now (periods .entry)) (now (costs .entry)) n y more) bound r ⌝ }
     ensures { λ r. ⌜ length (now (ends .exit)) ≡ length (now (ends .entry)) ⌝ }
 {
-    climb(periods, costs, n, ends, y, more, wide(bound))
+    climb(periods, costs, frees, n, ends, y, more, start, wide(bound))
 }
 
 // The same where the total is known to come down within reach: there is a least solution then, and nothing is compared with a bound.
 pub fn least_within(
     periods: &[u32],
     costs: &[u32],
+    frees: &[u32],
     n: usize,
     ends: &mut [u32; SLOTS],
     y: u32,
     more: u32,
+    start: u32,
 ) -> u32
-    requires { ⌜ After (now periods) (now costs) (now ends) n y more ⌝ }
+    requires { ⌜ After (now periods) (now costs) (now frees) (now ends) n y more start ⌝ }
     requires { ⌜ Comes-down (total (now periods) (now costs) n (afterwards (now periods) (now costs) n y more)) ⌝ }
     ensures { λ r. ⌜ IsLeast (total (now (periods .entry)) (now (costs .entry)) n (afterwards (now (periods .entry)) (now (costs .entry)) n y more)) r ⌝ }
     ensures { λ r. ⌜ EndsAt (now (periods .entry)) (now (ends .exit)) n r × (length (now (ends .exit)) ≡ length (now (ends .entry))) ⌝ }
 {
-    climb(periods, costs, n, ends, y, more, u64::MAX)
+    climb(periods, costs, frees, n, ends, y, more, start, u64::MAX)
 }

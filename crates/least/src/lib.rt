@@ -9,10 +9,10 @@ pub use after::least_after;
 pub use after::least_within;
 use numbers::wide;
 ghost use mathlib.Core.Path.{_≡_};
-ghost use Prim.Native.Nat.{_*_, _/_, _≤_, _<_, _^_};
+ghost use Prim.Native.Nat.{_*_, _-_, _/_, _≤_, _<_, _^_};
 ghost use Rattle.least.specs.Up.{up};
 ghost use Rattle.least.specs.Demand.{demand};
-ghost use Rattle.least.specs.Share.{unit, Fitting};
+ghost use Rattle.least.specs.Share.{unit, shares, Fitting, standingAt};
 ghost use Rattle.least.specs.Search.{Loads, reach};
 
 // Shares of a tick are counted in parts of this: 2 ^ 40.
@@ -58,6 +58,36 @@ fn share_of(period: u32, cost: u32) -> u64
     ensures { λ r. ⌜ (r ≡ cost * unit / period) × (r < 2 ^ 60) ⌝ }
 {
     wide(cost) * UNIT / wide(period)
+}
+
+// What the first n loads leave free of every tick, in parts of `UNIT`; 0 where they leave nothing.
+pub fn spare_of(periods: &[u32], costs: &[u32], n: usize) -> u64
+    requires { ⌜ Loads (now periods) (now costs) n ⌝ }
+    ensures { λ r. ⌜ r ≡ unit - shares (now (periods .entry)) (now (costs .entry)) n ⌝ }
+{
+    let mut sum: u64 = 0;
+    let mut j: usize = 0;
+    while j < n {
+        sum += share_of(periods[j], costs[j]);
+        j += 1;
+    }
+    if UNIT <= sum {
+        return 0;
+    }
+    UNIT - sum
+}
+
+// How far the first so many ticks of work reach where loads leave `spare` of every tick: a search with that much to do besides them may
+// stand there. At most `REACH`.
+pub fn standing(constant: u32, spare: u64) -> u32
+    requires { ⌜ (constant < reach) × (1 ≤ spare) ⌝ }
+    ensures { λ r. ⌜ r ≡ standingAt constant spare ⌝ }
+{
+    let reached = wide(constant) * UNIT / spare;
+    if wide(REACH) < reached {
+        return REACH;
+    }
+    reached as u32
 }
 
 // How many of the first n loads ask together for no more than every tick has. With one more they are never done with what they

@@ -6,8 +6,8 @@ use lib.ListN.{length, take}
 use denote.Ref.{now}
 use Rattle.least.specs.Up.{up}
 use Rattle.least.specs.Demand.{demand}
-use Rattle.least.specs.After.{Fit}
-use Rattle.least.proofs.ClimbLaws.{fit-periods}
+use Rattle.least.specs.After.{Fit, Frees}
+use Rattle.least.proofs.ClimbLaws.{fit-periods, starts-nowhere}
 use Rattle.table.specs.Limits.{most}
 use Rattle.global.specs.Interfaces.{interfacesIn}
 use Rattle.global.specs.View.{View, viewOf}
@@ -41,6 +41,9 @@ periods-long s = lent.periods-long (s .args .n) (s .args .m) (now (s .args .line
 costs-long : (s : tie.Start) → s .args .n ≤ length (s .args .common .costs)
 costs-long s = lent.costs-long (s .args .n) (s .args .m) (now (s .args .lines)) (s .args .common) (s .pre .0) (s .pre .1 .0)
 
+frees-long : (s : tie.Start) → s .args .n ≤ length (s .args .common .frees)
+frees-long s = lent.frees-long (s .args .n) (s .args .m) (now (s .args .lines)) (s .args .common) (s .pre .0) (s .pre .1 .0)
+
 periods-lent : (s : tie.Start) → take (s .args .n) (s .args .common .periods) ≡ viewOf (interfacesIn (s .args .n) (s .args .m) (now (s .args .lines))) (s .args .s) .periods
 periods-lent s = lent.periods-lent (s .args .n) (s .args .m) (now (s .args .lines)) (s .args .common) (s .pre .0) (s .pre .1 .0) (s .args .s)
 
@@ -52,8 +55,12 @@ fits : (s : tie.Start) → Fit (take (s .args .n) (s .args .common .periods)) (t
 unfolding viewOf
 fits s = rw (periods-lent s, costs-lent s) (seen s .fit)
 
+-- What the loads that are lent leave free.
+frees-lent : (s : tie.Start) → Frees (take (s .args .n) (s .args .common .periods)) (take (s .args .n) (s .args .common .costs)) (take (s .args .n) (s .args .common .frees)) (s .args .s + 1)
+frees-lent s = lent.frees-lent (s .args .n) (s .args .m) (now (s .args .lines)) (s .args .common) (s .pre .0) (s .pre .1 .0) (s .args .s) (s .pre .1 .1)
+
 -- What blocks is B(s).
-blocked : (c : tie.After-demand-in) → let s = c .before .before .before .before .before .before .before .before .before in c .before .before .before .before .before .before .blocking-in .result ≡ viewOf (interfacesIn (s .args .n) (s .args .m) (now (s .args .lines))) (s .args .s) .blocking
+blocked : (c : tie.After-demand-in) → let s = c .before .before .before .before .before .before .before .before .before .before in c .before .before .before .before .before .before .blocking-in .result ≡ viewOf (interfacesIn (s .args .n) (s .args .m) (now (s .args .lines))) (s .args .s) .blocking
 unfolding viewOf
 blocked c = c .before .before .before .before .before .before .blocking-in .ensures
 
@@ -61,126 +68,107 @@ blocked c = c .before .before .before .before .before .before .blocking-in .ensu
 fits-once : (c : tie.After-demand-in) → (1 ≤ c .before .before .before .before .before .before .blocking-in .result + c .demand-in .result) × (c .before .before .before .before .before .before .blocking-in .result + c .demand-in .result < 2 ^ 25)
 unfolding viewOf
 fits-once c =
-    let s = c .before .before .before .before .before .before .before .before .before in
+    let s = c .before .before .before .before .before .before .before .before .before .before in
     once-fits _ (seen s) (periods-lent s) (costs-lent s) (blocked c) (c .demand-in .ensures .0)
 
 -- What the search has found.
-found : (c : tie.After-least-after) → let s = c .before .before .before .before .before .before .before .before .before .before .before .before .before in Active (viewOf (interfacesIn (s .args .n) (s .args .m) (now (s .args .lines))) (s .args .s)) (c .least-after .result)
+found : (c : tie.After-least-after) → let s = c .before .before .before .before .before .before .before .before .before .before .before .before .before .before .before in Active (viewOf (interfacesIn (s .args .n) (s .args .m) (now (s .args .lines))) (s .args .s)) (c .least-after .result)
 unfolding viewOf
 found c =
-    let d = c .before .before .before .before in
-    let s = c .before .before .before .before .before .before .before .before .before .before .before .before .before in
+    let d = c .before .before .before .before .before in
+    let s = c .before .before .before .before .before .before .before .before .before .before .before .before .before .before .before in
     active-at _ (seen s) (periods-lent s) (costs-lent s) (blocked d) (d .demand-in .ensures .0) (c .least-after .ensures .0)
 
--- src/lib.rt:63:9
 blocking-in-requires : tie.Need-blocking-in-requires
 blocking-in-requires c κs = search needs
 
--- src/lib.rt:65:13
 array-share-prefix-periods : tie.Need-array-share-prefix-periods
-array-share-prefix-periods c = periods-long (c .before .before .before)
+array-share-prefix-periods c = periods-long (c .before .before .before .before)
 
--- src/lib.rt:65:13
 slice-aggregate-ends-at : tie.Need-slice-aggregate-ends-at
-slice-aggregate-ends-at c = used-length _ _ (periods-long (c .before .before .before .before))
+slice-aggregate-ends-at c = used-length _ _ (periods-long (c .before .before .before .before .before))
 
--- src/lib.rt:65:28
 add-ends-at : tie.Need-add-ends-at
-add-ends-at c = omega (arith, listed (c .before .before .before .before))
+add-ends-at c = omega (arith, listed (c .before .before .before .before .before))
 
--- src/lib.rt:65:5
 ends-at-requires : tie.Need-ends-at-requires
 ends-at-requires c κs =
-    let s = c .before .before .before .before .before in
+    let s = c .before .before .before .before .before .before in
     ((fit-periods (fits s), omega (arith, listed s), omega (arith, listed s)), (omega arith, omega arith))
 
--- src/lib.rt:66:26
 array-share-prefix-periods-2 : tie.Need-array-share-prefix-periods-2
-array-share-prefix-periods-2 c = periods-long (c .before .before .before .before .before .before)
+array-share-prefix-periods-2 c = periods-long (c .before .before .before .before .before .before .before)
 
--- src/lib.rt:66:26
 slice-aggregate-demand-in : tie.Need-slice-aggregate-demand-in
-slice-aggregate-demand-in c = used-length _ _ (periods-long (c .before .before .before .before .before .before .before))
+slice-aggregate-demand-in c = used-length _ _ (periods-long (c .before .before .before .before .before .before .before .before))
 
--- src/lib.rt:66:41
 array-share-prefix-costs : tie.Need-array-share-prefix-costs
-array-share-prefix-costs c = costs-long (c .before .before .before .before .before .before .before)
+array-share-prefix-costs c = costs-long (c .before .before .before .before .before .before .before .before)
 
--- src/lib.rt:66:41
 slice-aggregate-demand-in-2 : tie.Need-slice-aggregate-demand-in-2
-slice-aggregate-demand-in-2 c = used-length _ _ (costs-long (c .before .before .before .before .before .before .before .before))
+slice-aggregate-demand-in-2 c = used-length _ _ (costs-long (c .before .before .before .before .before .before .before .before .before))
 
--- src/lib.rt:66:54
 add-demand-in : tie.Need-add-demand-in
-add-demand-in c = omega (arith, listed (c .before .before .before .before .before .before .before .before))
+add-demand-in c = omega (arith, listed (c .before .before .before .before .before .before .before .before .before))
 
--- src/lib.rt:66:16
 demand-in-requires : tie.Need-demand-in-requires
-demand-in-requires c κs = (fits (c .before .before .before .before .before .before .before .before) .loads, (omega arith, omega arith))
+demand-in-requires c κs = (fits (c .before .before .before .before .before .before .before .before .before) .loads, (omega arith, omega arith))
 
--- src/lib.rt:66:16
 cast-once : tie.Need-cast-once
 cast-once c = omega (arith, fits-once c .1)
 
--- src/lib.rt:68:9
 array-share-prefix-periods-3 : tie.Need-array-share-prefix-periods-3
-array-share-prefix-periods-3 c = periods-long (c .before .before .before .before .before .before .before .before .before)
+array-share-prefix-periods-3 c = periods-long (c .before .before .before .before .before .before .before .before .before .before)
 
--- src/lib.rt:68:9
 slice-aggregate-least-after : tie.Need-slice-aggregate-least-after
-slice-aggregate-least-after c = used-length _ _ (periods-long (c .before .before .before .before .before .before .before .before .before .before))
+slice-aggregate-least-after c = used-length _ _ (periods-long (c .before .before .before .before .before .before .before .before .before .before .before))
 
--- src/lib.rt:69:9
 array-share-prefix-costs-2 : tie.Need-array-share-prefix-costs-2
-array-share-prefix-costs-2 c = costs-long (c .before .before .before .before .before .before .before .before .before .before)
+array-share-prefix-costs-2 c = costs-long (c .before .before .before .before .before .before .before .before .before .before .before)
 
--- src/lib.rt:69:9
 slice-aggregate-least-after-2 : tie.Need-slice-aggregate-least-after-2
-slice-aggregate-least-after-2 c = used-length _ _ (costs-long (c .before .before .before .before .before .before .before .before .before .before .before))
+slice-aggregate-least-after-2 c = used-length _ _ (costs-long (c .before .before .before .before .before .before .before .before .before .before .before .before))
 
--- src/lib.rt:70:9
+array-share-prefix-frees : tie.Need-array-share-prefix-frees
+array-share-prefix-frees c = frees-long (c .before .before .before .before .before .before .before .before .before .before .before .before)
+
+slice-aggregate-least-after-3 : tie.Need-slice-aggregate-least-after-3
+slice-aggregate-least-after-3 c = used-length _ _ (frees-long (c .before .before .before .before .before .before .before .before .before .before .before .before .before))
+
 add-least-after : tie.Need-add-least-after
-add-least-after c = omega (arith, listed (c .before .before .before .before .before .before .before .before .before .before .before))
+add-least-after c = omega (arith, listed (c .before .before .before .before .before .before .before .before .before .before .before .before .before))
 
--- src/lib.rt:73:9
 add-least-after-2 : tie.Need-add-least-after-2
-add-least-after-2 c = record { fits = omega (arith, fits-once (c .before .before .before) .1) }
+add-least-after-2 c = record { fits = omega (arith, fits-once (c .before .before .before .before) .1) }
 
--- src/lib.rt:73:9
 sub-least-after : tie.Need-sub-least-after
-sub-least-after c = omega (arith, fits-once (c .before .before .before) .0)
+sub-least-after c = omega (arith, fits-once (c .before .before .before .before) .0)
 
--- src/lib.rt:67:9
 least-after-requires : tie.Need-least-after-requires
 unfolding viewOf
 least-after-requires c κs =
-    let d = c .before .before .before in
-    let s = c .before .before .before .before .before .before .before .before .before .before .before .before in
-    let e = c .before .before .before .before .before .before .ends-at .ensures in
-    (record { waits = active-lent _ (seen s) (periods-lent s) (costs-lent s) (blocked d) (d .demand-in .ensures .0); with-end = omega (arith, listed s, e .1); ends-at = e .0 }, omega arith)
+    let d = c .before .before .before .before in
+    let s = c .before .before .before .before .before .before .before .before .before .before .before .before .before .before in
+    let e = c .before .before .before .before .before .before .before .ends-at .ensures in
+    (record { waits = active-lent _ (seen s) (periods-lent s) (costs-lent s) (blocked d) (d .demand-in .ensures .0); free = frees-lent s; with-end = omega (arith, listed s, e .1); ends-at = e .0; starts = starts-nowhere _ _ }, omega arith)
 
--- src/lib.rt:77:9
 returns : tie.Need-returns
 returns c = jobs-without _ (found (c .before) .beyond (c .if1 .taken))
 
--- src/lib.rt:79:22
 mul-round-up : tie.Need-mul-round-up
-mul-round-up c = omega (arith, listed (c .before .before .before .before .before .before .before .before .before .before .before .before .before .before))
+mul-round-up c = omega (arith, listed (c .before .before .before .before .before .before .before .before .before .before .before .before .before .before .before .before))
 
--- src/lib.rt:79:22
 array-read-round-up : tie.Need-array-read-round-up
-array-read-round-up c = listed (c .before .before .before .before .before .before .before .before .before .before .before .before .before .before)
+array-read-round-up c = listed (c .before .before .before .before .before .before .before .before .before .before .before .before .before .before .before .before)
 
--- src/lib.rt:79:5
 round-up-requires : tie.Need-round-up-requires
 round-up-requires c κs =
-    let s = c .before .before .before .before .before .before .before .before .before .before .before .before .before .before in
+    let s = c .before .before .before .before .before .before .before .before .before .before .before .before .before .before .before .before in
     (active-from _ (seen s) (found (c .before) .at (c .if1 .left)), omega (arith, period-pos _ (seen s), lent.period-lent (s .args .n) (s .args .m) (now (s .args .lines)) (s .args .common) (s .pre .0) (s .pre .1 .0) (s .args .s) (s .pre .1 .1)))
 
--- src/lib.rt:49:1
 returns-2 : tie.Need-returns-2
 returns-2 c =
-    let s = c .before .before .before .before .before .before .before .before .before .before .before .before .before .before .before in
+    let s = c .before .before .before .before .before .before .before .before .before .before .before .before .before .before .before .before .before in
     jobs-with _ (found (c .before .before) .at (c .before .if1 .left)) (c .round-up .ensures ∙ ap (up _) (lent.period-lent (s .args .n) (s .args .m) (now (s .args .lines)) (s .args .common) (s .pre .0) (s .pre .1 .0) (s .args .s) (s .pre .1 .1)))
 
 pub jobs-of-spec : {M : Type 1} → statement M
@@ -203,6 +191,8 @@ jobs-of-spec =
     slice-aggregate-least-after
     array-share-prefix-costs-2
     slice-aggregate-least-after-2
+    array-share-prefix-frees
+    slice-aggregate-least-after-3
     add-least-after
     add-least-after-2
     sub-least-after

@@ -14,6 +14,7 @@ use Rattle.global.specs.Computed.{seenBy, bestOf}
 use Rattle.global.proofs.BestLaws.{best-none, best-step, best-stays}
 use Rattle.global.proofs.ResponseLaws.{after-end, responds, uncounted-response}
 use Rattle.global.proofs.BudgetEndLaws.{released-before-end, budget-end-within}
+use Rattle.global.proofs.WaitLaws.{frees-fewer}
 use borrow.Author.Needs.{needs}
 use native.Mathlib.Omega.{arith}
 use Rattle.global.proofs.responses.best_response.Statement.{statement}
@@ -24,10 +25,10 @@ use Rattle.global.proofs.responses.better.Reads as better-reads
 use Rattle.global.proofs.responses.response_with.Reads as response-with-reads
 
 abbrev Inv-loop : tie.InvT-loop
-Inv-loop periods costs holdings ceilings own k end ends best₀ l₀ best l = (l ≤ length holdings) × (best ≡ bestOf (responseWith (seenBy periods costs holdings ceilings own) k) l)
+Inv-loop periods costs frees holdings ceilings own k end ends best₀ l₀ best l = (l ≤ length holdings) × (best ≡ bestOf (responseWith (seenBy periods costs holdings ceilings own) k) l)
 
 abbrev μ-loop : tie.MeasureT-loop
-μ-loop periods costs holdings ceilings own k end ends best₀ l₀ best l = length holdings - l
+μ-loop periods costs frees holdings ceilings own k end ends best₀ l₀ best l = length holdings - l
 
 -- src/responses.rt:102:5
 loop-holds : tie.Need-loop-holds Inv-loop μ-loop
@@ -60,7 +61,7 @@ loop-again c =
 -- src/responses.rt:108:23
 mul-release : tie.Need-mul-release Inv-loop μ-loop
 mul-release c =
-    let s = c .before .before .before .before .before .before .before .before .before in
+    let s = c .before .before .before .before .before .before .before .before .before .before in
     omega (arith, released-before-end _ (s .pre .0) (s .pre .1 .0), budget-end-within _ (s .pre .0) (s .pre .1 .0), active-within _ (s .pre .0) (s .pre .1 .0 .is-active))
 
 -- src/responses.rt:109:54
@@ -77,10 +78,11 @@ unfolding held ceiling
 response-with-requires c κs =
     let e = c .before .before in
     let i = e .before .before in
-    let s = c .before .before .before .before .before .before .before .before .before .before in
+    let s = c .before .before .before .before .before .before .before .before .before .before .before in
     let counts = pos-of-ne-zero (e .if1 .left) in
-    let at = s .pre .1 .1 .1 in
-    ((λ t u. at .0 t (omega (arith, u, s .pre .0 .ceiling-reaches (i .before .loop .l) (i .loop-test .taken) counts)), at .1), (after-end _ (s .pre .0) (s .pre .1 .0) (i .before .loop .l) (i .loop-test .taken) (s .pre .1 .1 .0) counts, omega (arith, released-before-end _ (s .pre .0) (s .pre .1 .0), s .pre .1 .1 .0)))
+    let at = s .pre .1 .1 .1 .0 in
+    let reaches = s .pre .0 .ceiling-reaches (i .before .loop .l) (i .loop-test .taken) counts in
+    ((λ t u. at .0 t (omega (arith, u, reaches)), at .1), (after-end _ (s .pre .0) (s .pre .1 .0) (i .before .loop .l) (i .loop-test .taken) (s .pre .1 .1 .0) counts, (omega (arith, released-before-end _ (s .pre .0) (s .pre .1 .0), s .pre .1 .1 .0), frees-fewer _ (s .pre .1 .1 .1 .1) (omega (arith, reaches)))))
 
 -- src/responses.rt:110:9
 better-requires : tie.Need-better-requires Inv-loop μ-loop
@@ -101,14 +103,14 @@ loop-again-2 c =
     let e = c .before .before .before .before in
     let i = e .before .before in
     let h = i .before .loop in
-    let s = c .before .before .before .before .before .before .before .before .before .before .before .before in
+    let s = c .before .before .before .before .before .before .before .before .before .before .before .before .before in
     let here = responds _ (s .pre .0) (s .pre .1 .0) (h .l) (i .loop-test .taken) (s .pre .1 .1 .0) (pos-of-ne-zero (e .if1 .left)) (c .before .response-with .ensures) in
     (turn-within _ _ (i .loop-test .taken), best-step (responseWith _ (s .args .k)) (h .l) (h .inv .1) here (c .better .ensures))
 
 -- src/responses.rt:86:1
 returns : tie.Need-returns Inv-loop μ-loop
 returns c =
-    let s = c .before .before .before .before .before .before in
+    let s = c .before .before .before .before .before .before .before in
     let e : c .before .loop .l ≡ length (now (s .args .holdings)) = omega arith in
     c .before .loop .inv .1 ∙ ap (bestOf (responseWith _ (s .args .k))) e
 

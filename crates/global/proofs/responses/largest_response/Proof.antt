@@ -12,6 +12,7 @@ use Rattle.global.proofs.ActiveLaws.{active-within, budget-at-most}
 use Rattle.global.proofs.JobsLaws.{job-counted, some-jobs, release-fits, end-small, budget-by-its-end}
 use Rattle.global.proofs.WaitLaws.{first-is, next-after, next-down, next-found}
 use Rattle.global.proofs.SkipLaws.{WorstTo, worst-to-none, worst-to-judged, worst-of-all, latest-holds, passed-over, response-above-zero, room-there, settled-from}
+use Rattle.least.proofs.ClimbLaws.{starts-nowhere}
 use borrow.Author.Needs.{needs}
 use native.Mathlib.Omega.{arith}
 use Rattle.global.proofs.responses.largest_response.Statement.{statement}
@@ -27,11 +28,11 @@ use Rattle.global.proofs.responses.worse.Reads as worse-reads
 use Rattle.least.proofs.least_within.Reads as least-within-reads
 
 abbrev Inv-loop : tie.InvT-loop
-Inv-loop periods costs holdings ceilings own n active first s cost worst₀ reached₀ end₀ k₀ free last room plain until₀ worst reached end k until =
+Inv-loop periods costs frees holdings ceilings own n active first s cost worst₀ reached₀ end₀ k₀ free last room plain until₀ worst reached end k until =
     (k + 1 ≤ n) × (until + 1 ≤ n) × (until + 1 < n → room ≤ worst .response + until * free) × WorstTo (seenBy periods costs holdings ceilings own) k worst × (end ≡ budgetEnd (seenBy periods costs holdings ceilings own) k) × EndsAt periods reached (own .place) end × (most ≤ length reached)
 
 abbrev μ-loop : tie.MeasureT-loop
-μ-loop periods costs holdings ceilings own n active first s cost worst₀ reached₀ end₀ k₀ free last room plain until₀ worst reached end k until = n - k
+μ-loop periods costs frees holdings ceilings own n active first s cost worst₀ reached₀ end₀ k₀ free last room plain until₀ worst reached end k until = n - k
 
 -- src/responses.rt:237:16
 mul-cost : tie.Need-mul-cost Inv-loop μ-loop
@@ -44,51 +45,51 @@ shared-slice-read-cost c = search needs
 -- src/responses.rt:246:16
 sub-free : tie.Need-sub-free Inv-loop μ-loop
 sub-free c =
-    let s = c .before .before .before .before .before .before in
+    let s = c .before .before .before .before .before .before .before in
     omega (arith, s .pre .0 .fits, s .pre .0 .own-cost)
 
 -- src/responses.rt:247:16
 sub-last : tie.Need-sub-last Inv-loop μ-loop
 sub-last c =
-    let s = c .before .before .before .before .before .before in
+    let s = c .before .before .before .before .before .before .before in
     omega (arith, some-jobs _ (s .pre .0) (s .pre .1 .0))
 
 -- src/responses.rt:248:25
 mul-room : tie.Need-mul-room Inv-loop μ-loop
 mul-room c =
-    let s = c .before .before .before .before .before .before in
+    let s = c .before .before .before .before .before .before .before in
     record { fits = omega (arith, room-there _ (s .pre .0) (s .pre .1 .0) (s .pre .0 .own-cost), active-within _ (s .pre .0) (s .pre .1 .0 .is-active)) }
 
 -- src/responses.rt:248:16
 sub-room : tie.Need-sub-room Inv-loop μ-loop
 sub-room c =
-    let s = c .before .before .before .before .before .before in
+    let s = c .before .before .before .before .before .before .before in
     room-there _ (s .pre .0) (s .pre .1 .0) (s .pre .0 .own-cost)
 
 -- src/responses.rt:249:9
 is-plain-requires : tie.Need-is-plain-requires Inv-loop μ-loop
-is-plain-requires c κs = omega (arith, c .before .before .before .before .before .before .pre .0 .same-resources)
+is-plain-requires c κs = omega (arith, c .before .before .before .before .before .before .before .pre .0 .same-resources)
 
 -- src/responses.rt:251:5
 loop-holds : tie.Need-loop-holds Inv-loop μ-loop
 loop-holds c =
-    let s = c .before .before .before .before .before .before .before in
-    (some-jobs _ (s .pre .0) (s .pre .1 .0), omega (arith, some-jobs _ (s .pre .0) (s .pre .1 .0)), λ u. absurd (omega (arith, u)), worst-to-none _, first-is _ (s .pre .0) (s .pre .1 .1), s .pre .1 .1 .ends-at, s .pre .1 .1 .with-end)
+    let s = c .before .before .before .before .before .before .before .before in
+    (some-jobs _ (s .pre .0) (s .pre .1 .0), omega (arith, some-jobs _ (s .pre .0) (s .pre .1 .0)), λ u. absurd (omega (arith, u)), worst-to-none _, first-is _ (s .pre .0) (s .pre .1 .1 .0), s .pre .1 .1 .0 .ends-at, s .pre .1 .1 .0 .with-end)
 
 -- src/responses.rt:253:13
 least-within-requires : tie.Need-least-within-requires Inv-loop μ-loop
 least-within-requires c κs =
     let h = c .before .before .loop in
-    let s = c .before .before .before .before .before .before .before .before .before .before in
+    let s = c .before .before .before .before .before .before .before .before .before .before .before in
     let here = job-counted _ (s .pre .1 .0) (h .k) (omega (arith, h .inv .0)) in
     let next = job-counted _ (s .pre .1 .0) (h .k + 1) (omega (arith, c .before .loop-test .taken, h .inv .1)) in
-    (next-after _ (s .pre .0) here (h .inv .4) (h .inv .5) (h .inv .6), next-down _ (s .pre .0) here (h .inv .4) next)
+    (next-after _ (s .pre .0) here (h .inv .4) (h .inv .5) (h .inv .6) (s .pre .1 .1 .1) (starts-nowhere _ _), next-down _ (s .pre .0) here (h .inv .4) next)
 
 -- src/responses.rt:254:13
 latest-end-requires : tie.Need-latest-end-requires Inv-loop μ-loop
 latest-end-requires c κs =
     let h = c .before .before .before .loop in
-    let s = c .before .before .before .before .before .before .before .before .before .before .before in
+    let s = c .before .before .before .before .before .before .before .before .before .before .before .before in
     let here = job-counted _ (s .pre .1 .0) (h .k) (omega (arith, h .inv .0)) in
     let next = job-counted _ (s .pre .1 .0) (h .k + 1) (omega (arith, c .before .before .loop-test .taken, h .inv .1)) in
     (budget-by-its-end _ (s .pre .0) next (next-found _ (s .pre .0) here (h .inv .4) next (c .least-within .ensures .0)), omega (arith, s .pre .0 .own-cost, budget-at-most (seenBy (s .args .periods .now) (s .args .costs .now) (s .args .holdings .now) (s .args .ceilings .now) (s .args .own))), omega (arith, h .inv .4, end-small _ (s .pre .0) here, s .pre .0 .own-cost, s .pre .0 .fits, s .pre .0 .period-small))
@@ -96,7 +97,7 @@ latest-end-requires c κs =
 -- src/responses.rt:255:12
 may-be-worse-requires : tie.Need-may-be-worse-requires Inv-loop μ-loop
 may-be-worse-requires c κs =
-    let s = c .before .before .before .before .before .before .before .before .before .before .before .before in
+    let s = c .before .before .before .before .before .before .before .before .before .before .before .before .before in
     let h = c .before .before .before .before .loop in
     release-fits _ (s .pre .0) (job-counted _ (s .pre .1 .0) (h .k) (omega (arith, h .inv .0)))
 
@@ -104,8 +105,8 @@ may-be-worse-requires c κs =
 job-response-requires : tie.Need-job-response-requires Inv-loop μ-loop
 job-response-requires c κs =
     let h = c .before .before .before .before .before .before .loop in
-    let s = c .before .before .before .before .before .before .before .before .before .before .before .before .before .before in
-    (s .pre .0, (job-counted _ (s .pre .1 .0) (h .k) (omega (arith, h .inv .0)), (h .inv .4, (h .inv .5, h .inv .6))))
+    let s = c .before .before .before .before .before .before .before .before .before .before .before .before .before .before .before in
+    (s .pre .0, (job-counted _ (s .pre .1 .0) (h .k) (omega (arith, h .inv .0)), (h .inv .4, ((h .inv .5, h .inv .6), s .pre .1 .1 .1))))
 
 -- src/responses.rt:257:13
 worse-requires : tie.Need-worse-requires Inv-loop μ-loop
@@ -128,7 +129,7 @@ loop-again : tie.Need-loop-again Inv-loop μ-loop
 loop-again c =
     let w = c .before .before .before in
     let h = c .before .before .before .before .before .before .loop in
-    let s = c .before .before .before .before .before .before .before .before .before .before .before .before .before .before in
+    let s = c .before .before .before .before .before .before .before .before .before .before .before .before .before .before .before in
     let here = job-counted _ (s .pre .1 .0) (h .k) (omega (arith, h .inv .0)) in
     let after = job-counted _ (s .pre .1 .0) (h .k + 1) (omega (arith, c .before .before .before .before .before .loop-test .taken, h .inv .1)) in
     let first = job-counted _ (s .pre .1 .0) 0 (some-jobs _ (s .pre .0) (s .pre .1 .0)) in
@@ -149,15 +150,15 @@ loop-again c =
 returns : tie.Need-returns Inv-loop μ-loop
 returns c =
     let h = c .before .before .loop in
-    let s = c .before .before .before .before .before .before .before .before .before .before in
+    let s = c .before .before .before .before .before .before .before .before .before .before .before in
     settled-from _ (s .pre .0) (s .pre .1 .0) (s .pre .0 .own-cost) (h .until) (h .k) (h .worst) (h .inv .2 (omega (arith, c .if2 .taken))) (c .before .loop-test .left) (omega (arith, h .inv .0)) (h .inv .3)
 
 -- src/responses.rt:266:9
 job-response-requires-2 : tie.Need-job-response-requires-2 Inv-loop μ-loop
 job-response-requires-2 c κs =
     let h = c .before .before .loop in
-    let s = c .before .before .before .before .before .before .before .before .before .before in
-    (s .pre .0, (job-counted _ (s .pre .1 .0) (h .k) (omega (arith, h .inv .0)), (h .inv .4, (h .inv .5, h .inv .6))))
+    let s = c .before .before .before .before .before .before .before .before .before .before .before in
+    (s .pre .0, (job-counted _ (s .pre .1 .0) (h .k) (omega (arith, h .inv .0)), (h .inv .4, ((h .inv .5, h .inv .6), s .pre .1 .1 .1))))
 
 -- src/responses.rt:267:5
 worse-requires-2 : tie.Need-worse-requires-2 Inv-loop μ-loop
@@ -167,7 +168,7 @@ worse-requires-2 c κs = search needs
 returns-2 : tie.Need-returns-2 Inv-loop μ-loop
 returns-2 c =
     let h = c .before .before .before .before .loop in
-    let s = c .before .before .before .before .before .before .before .before .before .before .before .before in
+    let s = c .before .before .before .before .before .before .before .before .before .before .before .before .before in
     let first = job-counted _ (s .pre .1 .0) 0 (some-jobs _ (s .pre .0) (s .pre .1 .0)) in
     worst-of-all _ (h .k) _ _ (omega (arith, c .before .before .if2 .left, c .before .before .before .loop-test .left, h .inv .0, h .inv .1))
     (worst-to-judged _ (h .k) (response-above-zero _ (s .pre .0) first) (h .worst) (h .inv .3) (c .before .job-response2 .ensures) (c .worse2 .ensures))

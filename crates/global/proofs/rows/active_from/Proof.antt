@@ -9,6 +9,7 @@ use Rattle.global.specs.Computed.{seenBy}
 use Rattle.global.proofs.ActiveLaws.{period-pos}
 use Rattle.global.proofs.WaitLaws.{own-holds, own-small, blocking-left, active-after, active-found}
 use native.Mathlib.Omega.{arith}
+use Rattle.least.proofs.ClimbLaws.{starts-nowhere}
 use borrow.Author.Needs.{needs}
 use Rattle.global.proofs.rows.active_from.Statement.{statement}
 use Rattle.global.proofs.rows.active_from.Tie as tie
@@ -20,7 +21,7 @@ use Rattle.least.proofs.round_up.Reads as round-up-reads
 -- What is computed from the periods of its own that have begun.
 module _ (c : tie.After-round-up) where
   abbrev entry : tie.Start
-  entry = c .before .before .before .before .before
+  entry = c .before .before .before .before .before .before
 
   abbrev v : View
   v = seenBy (entry .args .periods .now) (entry .args .costs .now) (entry .args .holdings .now) (entry .args .ceilings .now) (entry .args .own)
@@ -37,12 +38,12 @@ module _ (c : tie.After-round-up) where
 -- src/rows.rt:103:9
 round-up-requires : tie.Need-round-up-requires
 round-up-requires c κs =
-    let s = c .before .before .before .before in
-    (s .pre .1 .is-least .from, period-pos _ (s .pre .0))
+    let s = c .before .before .before .before .before in
+    (s .pre .1 .0 .is-least .from, period-pos _ (s .pre .0))
 
 -- src/rows.rt:105:18
 mul-reached : tie.Need-mul-reached
-mul-reached c = record { fits = omega (arith, end-is (c .before), up-is-tight (entry (c .before) .args .first) (entry (c .before) .args .own .period) (period-pos _ (entry (c .before) .pre .0)), entry (c .before) .pre .0 .period-small, entry (c .before) .pre .1 .within) }
+mul-reached c = record { fits = omega (arith, end-is (c .before), up-is-tight (entry (c .before) .args .first) (entry (c .before) .args .own .period) (period-pos _ (entry (c .before) .pre .0)), entry (c .before) .pre .0 .period-small, entry (c .before) .pre .1 .0 .within) }
 
 -- src/rows.rt:105:5
 mul-reached-2 : tie.Need-mul-reached-2
@@ -62,13 +63,13 @@ shared-slice-read-more c = search needs
 
 -- src/rows.rt:106:16
 mul-more-2 : tie.Need-mul-more-2
-mul-more-2 c = record { fits = omega (arith, asked-is (c .before .before), own-small _ (entry (c .before .before) .pre .0) (entry (c .before .before) .pre .1), entry (c .before .before) .pre .0 .period-small, entry (c .before .before) .pre .1 .within) }
+mul-more-2 c = record { fits = omega (arith, asked-is (c .before .before), own-small _ (entry (c .before .before) .pre .0) (entry (c .before .before) .pre .1 .0), entry (c .before .before) .pre .0 .period-small, entry (c .before .before) .pre .1 .0 .within) }
 
 -- src/rows.rt:106:16
 sub-more : tie.Need-sub-more
 sub-more c =
     let r = c .before .before .before in
-    omega (arith, asked-is r, own-holds _ (entry r .pre .0) (entry r .pre .1))
+    omega (arith, asked-is r, own-holds _ (entry r .pre .0) (entry r .pre .1 .0))
 
 -- src/rows.rt:110:9
 add-least-after : tie.Need-add-least-after
@@ -78,13 +79,13 @@ add-least-after c = search needs
 least-after-requires : tie.Need-least-after-requires
 least-after-requires c κs =
     let r = c .before .before .before .before in
-    (rw (end-is r, more-is r) (active-after _ (entry r .pre .0) (entry r .pre .1)), omega arith)
+    (rw (end-is r, more-is r) (active-after _ (entry r .pre .0) (entry r .pre .1 .0) (entry r .pre .1 .1) (starts-nowhere _ _)), omega arith)
 
 -- src/rows.rt:89:1
 returns : tie.Need-returns
 returns c =
     let r = c .before .before .before .before .before in
-    active-found _ (entry r .pre .0) (rw (more-is r, blocking-left _ (entry r .pre .0) (entry r .pre .1)) at (c .least-after .ensures .0))
+    active-found _ (entry r .pre .0) (rw (more-is r, blocking-left _ (entry r .pre .0) (entry r .pre .1 .0)) at (c .least-after .ensures .0))
 
 pub active-from-spec : {M : Type 1} → statement M
 active-from-spec =

@@ -15,27 +15,27 @@ use Rattle.least.proofs.round_up.Reads as round-up-reads
 -- src/rows.rt:56:9
 round-up-requires : tie.Need-round-up-requires
 round-up-requires c κs =
-    let s = c .before .before .before .before in
+    let s = c .before .before .before .before .before in
     (active-from _ (s .pre .0) (s .pre .1 .0), period-pos _ (s .pre .0))
 
 -- src/rows.rt:57:9
 largest-response-requires : tie.Need-largest-response-requires
 unfolding jobs
 largest-response-requires c κs =
-    let s = c .before .before .before .before .before in
+    let s = c .before .before .before .before .before .before in
     (s .pre .0, (record { is-active = s .pre .1 .0; all = c .round-up .ensures }, s .pre .1 .1))
 
 -- src/rows.rt:59:18
-mul-t13 : tie.Need-mul-t13
-mul-t13 c = search needs
+mul-t14 : tie.Need-mul-t14
+mul-t14 c = search needs
 
 -- src/rows.rt:59:18
-shared-slice-read-t15 : tie.Need-shared-slice-read-t15
-shared-slice-read-t15 c = search needs
+shared-slice-read-t16 : tie.Need-shared-slice-read-t16
+shared-slice-read-t16 c = search needs
 
 -- src/rows.rt:59:18
-sub-t16 : tie.Need-sub-t16
-sub-t16 c = budget-below _ (c .before .before .before .before .before .before .before .before .pre .0)
+sub-t17 : tie.Need-sub-t17
+sub-t17 c = budget-below _ (c .before .before .before .before .before .before .before .before .before .pre .0)
 
 -- src/rows.rt:66:18
 judge-requires : tie.Need-judge-requires
@@ -44,7 +44,7 @@ judge-requires c κs = search needs
 -- src/rows.rt:39:1
 returns : tie.Need-returns
 returns c =
-    let s = c .before .before .before .before .before .before .before .before .before in
+    let s = c .before .before .before .before .before .before .before .before .before .before in
     row-with _ (s .args .failing) (s .args .active) (overrun-computed _ (s .pre .0)) (c .before .before .before .before .round-up .ensures) (c .before .before .before .largest-response .ensures) (c .judge .ensures)
 
 pub active-row-spec : {M : Type 1} → statement M
@@ -53,8 +53,8 @@ active-row-spec =
     (tie.spec
     round-up-requires
     largest-response-requires
-    mul-t13
-    shared-slice-read-t15
-    sub-t16
+    mul-t14
+    shared-slice-read-t16
+    sub-t17
     judge-requires
     returns)

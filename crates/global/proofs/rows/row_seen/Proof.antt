@@ -25,63 +25,63 @@ shared-slice-read-cost c = search needs
 
 -- src/rows.rt:134:9
 row-without-requires : tie.Need-row-without-requires
-row-without-requires c κs = budget-below _ (c .before .before .before .before .before .before .pre .0)
+row-without-requires c κs = budget-below _ (c .before .before .before .before .before .before .before .pre .0)
 
 -- src/rows.rt:134:9
 returns : tie.Need-returns
 returns c =
-    let s = c .before .before .before .before .before .before .before in
-    c .row-without .ensures ∙ row-without _ (s .args .failing) (overrun-computed _ (s .pre .0)) (s .pre .1 (c .before .if1 .taken))
+    let s = c .before .before .before .before .before .before .before .before in
+    c .row-without .ensures ∙ row-without _ (s .args .failing) (overrun-computed _ (s .pre .0)) (s .pre .1 .0 (c .before .if1 .taken))
 
 -- src/rows.rt:137:17
 add-ahead : tie.Need-add-ahead
-add-ahead c = record { fits = omega (arith, first-small _ (c .before .before .before .before .before .before .before .pre .0)) }
+add-ahead c = record { fits = omega (arith, first-small _ (c .before .before .before .before .before .before .before .before .pre .0)) }
 
 -- src/rows.rt:138:9
 least-after-requires : tie.Need-least-after-requires
 least-after-requires c κs =
-    let s = c .before .before .before .before .before .before .before .before in
-    (after-none _ (s .pre .0) 0 (first-ahead _ (s .pre .0)) (first-small _ (s .pre .0)), omega arith)
+    let s = c .before .before .before .before .before .before .before .before .before in
+    (after-none _ (s .pre .0) 0 (first-ahead _ (s .pre .0)) (first-small _ (s .pre .0)) (s .pre .1 .1), omega arith)
 
 -- src/rows.rt:140:9
 row-without-requires-2 : tie.Need-row-without-requires-2
-row-without-requires-2 c κs = budget-below _ (c .before .before .before .before .before .before .before .before .before .before .pre .0)
+row-without-requires-2 c κs = budget-below _ (c .before .before .before .before .before .before .before .before .before .before .before .pre .0)
 
 -- src/rows.rt:140:9
 returns-2 : tie.Need-returns-2
 returns-2 c =
-    let s = c .before .before .before .before .before .before .before .before .before .before .before in
+    let s = c .before .before .before .before .before .before .before .before .before .before .before .before in
     c .row-without2 .ensures ∙ row-without _ (s .args .failing) (overrun-computed _ (s .pre .0)) (first-beyond _ (s .pre .0) (c .before .before .least-after .ensures .0) (c .before .if2 .taken))
 
 -- src/rows.rt:142:9
 active-from-requires : tie.Need-active-from-requires
 active-from-requires c κs =
-    let s = c .before .before .before .before .before .before .before .before .before .before in
+    let s = c .before .before .before .before .before .before .before .before .before .before .before in
     let f = c .before .least-after .ensures in
-    (s .pre .0, first-end _ (s .pre .0) (f .0) (omega (arith, f .1)) (c .if2 .left))
+    (s .pre .0, (first-end _ (s .pre .0) (f .0) (omega (arith, f .1)) (c .if2 .left), s .pre .1 .1))
 
 -- src/rows.rt:144:9
 row-without-requires-3 : tie.Need-row-without-requires-3
-row-without-requires-3 c κs = budget-below _ (c .before .before .before .before .before .before .before .before .before .before .before .before .pre .0)
+row-without-requires-3 c κs = budget-below _ (c .before .before .before .before .before .before .before .before .before .before .before .before .before .pre .0)
 
 -- src/rows.rt:144:9
 returns-3 : tie.Need-returns-3
 returns-3 c =
-    let s = c .before .before .before .before .before .before .before .before .before .before .before .before .before in
+    let s = c .before .before .before .before .before .before .before .before .before .before .before .before .before .before in
     c .row-without3 .ensures ∙ row-without _ (s .args .failing) (overrun-computed _ (s .pre .0)) (c .before .before .active-from .ensures .beyond (c .before .if3 .taken))
 
 -- src/rows.rt:146:5
 active-row-requires : tie.Need-active-row-requires
 active-row-requires c κs =
-    let s = c .before .before .before .before .before .before .before .before .before .before .before .before in
+    let s = c .before .before .before .before .before .before .before .before .before .before .before .before .before in
     let f = c .before .before .before .least-after .ensures in
-    (s .pre .0, (c .before .active-from .ensures .at (c .if3 .left), first-end _ (s .pre .0) (f .0) (omega (arith, f .1)) (c .before .before .if2 .left)))
+    (s .pre .0, (c .before .active-from .ensures .at (c .if3 .left), (first-end _ (s .pre .0) (f .0) (omega (arith, f .1)) (c .before .before .if2 .left), s .pre .1 .1)))
 
 -- src/rows.rt:120:1
 returns-4 : tie.Need-returns-4
 returns-4 c =
     let is = c .before .before .active-from .ensures .at (c .before .if3 .left) in
-    let s = c .before .before .before .before .before .before .before .before .before .before .before .before .before in
+    let s = c .before .before .before .before .before .before .before .before .before .before .before .before .before .before in
     c .active-row .ensures ∙ ap (rowFor _ (s .args .failing)) (sym is)
 
 pub row-seen-spec : {M : Type 1} → statement M

@@ -1,226 +1,220 @@
--- `least::after::climb` meets its contract. The invariant: x is what there is to do once the loads have asked as often as
--- `ends` says, and the loads from `stop` on, and in a turn those from `from` to t, are ahead of it. Assumes nothing.
+-- `least::after::climb` meets its contract. The invariant: x is what there is to do once the loads have asked as often as `ends` says,
+-- and the loads from the one that has asked last up to t, round the end, are ahead of it. Assumes nothing.
+use Prim.Native.Nat.{ℕ, _^_, _≤_, _<_}
+use mathlib.Core.Path.{_≡_, refl, _∙_}
+use mathlib.Core.List.{List}
+use mathlib.Core.Logic.{_⊎_, inl, inr, ⊎-elim}
+use lib.ListN.{length}
+use Rattle.least.specs.After.{afterwards}
+use Rattle.least.proofs.ClimbLaws.{Climbing, climbs-from, climbs-start, total-starts, falls-behind, no-solution, climb-small, climbs-on, now-ahead, grows, too-far, settled}
+use Rattle.least.proofs.RoundLaws.{Next, Round, Passed, next-listed, round-begins, passes, passes-anew, goes-on, comes-back, left-over, less-left}
 use borrow.Author.Needs.{needs}
 use native.Mathlib.Omega.{arith}
-use Prim.Native.Nat.{_+_, _-_, _^_, _≤_, _<_}
-use mathlib.Core.Path.{_≡_, refl, _∙_}
-use mathlib.Core.Logic.{⊎-elim}
-use lib.ListN.{length, getD, length-set}
-use Rattle.lists.proofs.Over.{le-or-lt}
-use Rattle.least.specs.After.{afterwards}
-use Rattle.least.proofs.ClimbLaws.{Climbing, Quiet, climbs-from, total-starts, no-solution, caught-within, climb-small, climbs-on, now-ahead, grows, settled}
 use Rattle.least.proofs.after.climb.Statement.{statement}
 use Rattle.least.proofs.after.climb.Tie as tie
 use Rattle.least.proofs.after.climb.Reads as reads
 use Rattle.least.proofs.after.climb.Lts as lts
-use Rattle.least.proofs.after.caught_up.Reads as caught-up-reads
-
-abbrev Inv-loop2 : tie.InvT-loop2
-Inv-loop2 periods costs n ends₀ y more bound x₀ stop₀ from₀ t₀ ends x stop from t =
-    (t ≤ stop) × (stop ≤ n) × (length ends ≡ length ends₀) × Climbing periods costs ends n (afterwards periods costs n y more) x × (x < 2 ^ 25) × Quiet ends x from t × Quiet ends x stop n × (x₀ ≤ x) × (0 < from → x₀ < x) × (from ≤ t)
-
-abbrev μ-loop2 : tie.MeasureT-loop2
-μ-loop2 periods costs n ends₀ y more bound x₀ stop₀ from₀ t₀ ends x stop from t =
-    n - t
+use Rattle.least.proofs.after.advanced.Reads as advanced-reads
+use Rattle.least.proofs.after.ask.Reads as ask-reads
+use Rattle.numbers.proofs.wide.Reads as wide-reads
 
 abbrev Inv-loop : tie.InvT-loop
-Inv-loop periods costs n ends₀ y more bound x₀ stop₀ ends x stop =
-    (stop ≤ n) × (length ends ≡ length ends₀) × Climbing periods costs ends n (afterwards periods costs n y more) x × (x < 2 ^ 25) × Quiet ends x stop n
+Inv-loop periods costs frees n ends₀ y more start bound x₀ last₀ t₀ ends x last t =
+    (t < n) × (last < n) × (length ends ≡ length ends₀) × Climbing periods costs ends n (afterwards periods costs n y more) x × (x < 2 ^ 25) × Round ends x n last t
 
 abbrev μ-loop : tie.MeasureT-loop
-μ-loop periods costs n ends₀ y more bound x₀ stop₀ ends x stop =
-    2 ^ 25 - x
+μ-loop periods costs frees n ends₀ y more start bound x₀ last₀ t₀ ends x last t =
+    left-over n x last t
 
--- At load t of a turn.
-module _ (c : tie.In-loop2 Inv-loop2 μ-loop2 Inv-loop μ-loop) where
-  abbrev entry : tie.Start Inv-loop2 μ-loop2 Inv-loop μ-loop
-  entry = c .before .before .before .before .before
+-- What holds before the loop.
+module _ (s : tie.Start Inv-loop μ-loop) where
+  abbrev constant : ℕ
+  constant = afterwards (s .args .periods .now) (s .args .costs .now) (s .args .n) (s .args .y) (s .args .more)
 
-  listed : c .before .loop2 .t < entry .args .n
-  listed = omega (arith, c .loop2-test .taken, c .before .loop2 .inv .1)
+  abbrev Begun : List ℕ → ℕ → Type 0
+  Begun ends x = Climbing (s .args .periods .now) (s .args .costs .now) ends (s .args .n) constant x × (x < 2 ^ 25) × (length ends ≡ length (s .args .ends .now))
 
-  in-slots : c .before .loop2 .t < 8
-  in-slots = omega (arith, listed, entry .pre .0 .waits .few)
+  begun-at : {ends ends′ : List ℕ} {x x′ : ℕ} → ends ≡ ends′ → x ≡ x′ → Begun ends′ x′ → Begun ends x
+  begun-at e f b = rw (e, f) b
 
-  room : c .before .loop2 .t < length (c .before .loop2 .ends)
-  room = omega (arith, listed, entry .pre .0 .with-end, c .before .loop2 .inv .2, c .before .before .loop .inv .1)
-
--- After a turn: the loads from `from` on are ahead.
-module _ (c : tie.After-loop2 Inv-loop2 μ-loop2 Inv-loop μ-loop) where
-  ahead-from : Quiet (c .before .loop2 .ends) (c .before .loop2 .x) (c .before .loop2 .from) (c .before .before .before .before .before .args .n)
-  ahead-from t a b =
-      let i = c .before .loop2 .inv in
-      ⊎-elim (λ (h : c .before .loop2 .t ≤ t). i .6 t (omega (arith, c .loop2-test .left)) b)
-      (λ (h : t < c .before .loop2 .t). i .5 t a h)
-      (le-or-lt (c .before .loop2 .t) t)
-
--- src/after.rt:79:17
-add-x : tie.Need-add-x Inv-loop2 μ-loop2 Inv-loop μ-loop
-add-x c = search needs
-
--- src/after.rt:81:5
-loop-holds : tie.Need-loop-holds Inv-loop2 μ-loop2 Inv-loop μ-loop
-loop-holds c = (search needs, refl, climbs-from _ _ _ _ _ _ (c .before .before .pre .0), c .before .before .pre .0 .waits .small, λ t a b. absurd (omega arith))
-
--- src/after.rt:84:9
-loop2-holds : tie.Need-loop2-holds Inv-loop2 μ-loop2 Inv-loop μ-loop
-loop2-holds c = search needs
-
--- src/after.rt:85:16
-mul-if1 : tie.Need-mul-if1 Inv-loop2 μ-loop2 Inv-loop μ-loop
-mul-if1 c = search needs
-
--- src/after.rt:85:16
-element-copy-out-if1 : tie.Need-element-copy-out-if1 Inv-loop2 μ-loop2 Inv-loop μ-loop
-element-copy-out-if1 c = in-slots c
-
--- src/after.rt:86:40
-mul-caught-up : tie.Need-mul-caught-up Inv-loop2 μ-loop2 Inv-loop μ-loop
-mul-caught-up c = search needs
-
--- src/after.rt:86:40
-element-copy-out-caught-up : tie.Need-element-copy-out-caught-up Inv-loop2 μ-loop2 Inv-loop μ-loop
-element-copy-out-caught-up c = in-slots (c .before .before)
-
--- src/after.rt:86:52
-mul-caught-up-2 : tie.Need-mul-caught-up-2 Inv-loop2 μ-loop2 Inv-loop μ-loop
-mul-caught-up-2 c = search needs
-
--- src/after.rt:86:52
-shared-slice-read-caught-up :
-    tie.Need-shared-slice-read-caught-up Inv-loop2 μ-loop2 Inv-loop μ-loop
-shared-slice-read-caught-up c = search needs
-
--- src/after.rt:86:64
-mul-caught-up-3 : tie.Need-mul-caught-up-3 Inv-loop2 μ-loop2 Inv-loop μ-loop
-mul-caught-up-3 c = search needs
-
--- src/after.rt:86:64
-shared-slice-read-caught-up-2 :
-    tie.Need-shared-slice-read-caught-up-2 Inv-loop2 μ-loop2 Inv-loop μ-loop
-shared-slice-read-caught-up-2 c = search needs
-
--- src/after.rt:86:21
-caught-up-requires : tie.Need-caught-up-requires Inv-loop2 μ-loop2 Inv-loop μ-loop
-caught-up-requires c κs =
-    let s = c .before .before .before .before .before in
-    let i = s .before in
-    let e = entry s .pre .0 in
-    let f = e .waits .fit in
-    ((c .before .before .before .if1 .taken, i .loop2 .inv .4, caught-within _ _ _ _ _ _ f (i .loop2 .inv .3) _ (listed s) _ (total-starts _ _ _ _ _ _ e) (entry s .pre .1)), (f .cost-pos _ (listed s), f .cost-fits _ (listed s), f .period-small _ (listed s)))
-
--- src/after.rt:89:28
-wide-requires : tie.Need-wide-requires Inv-loop2 μ-loop2 Inv-loop μ-loop
-wide-requires c κs = search needs
-
--- src/after.rt:88:21
-returns : tie.Need-returns Inv-loop2 μ-loop2 Inv-loop μ-loop
-returns c =
-    let k = c .before .before in
-    let s = k .before .before .before .before .before .before in
-    (record { at = λ h. absurd (omega (arith, c .if2 .taken, c .before .wide .ensures .0)); ends-at = λ h. absurd (omega (arith, c .if2 .taken, c .before .wide .ensures .0)); beyond = no-solution _ _ _ _ _ _ (entry s .pre .0 .waits .fit) (s .before .loop2 .inv .3) _ (listed s) _ _ (k .caught-up .ensures) }, s .before .loop2 .inv .2 ∙ s .before .before .loop .inv .1)
-
--- src/after.rt:90:17
-mul-ends : tie.Need-mul-ends Inv-loop2 μ-loop2 Inv-loop μ-loop
-mul-ends c = search needs
-
--- src/after.rt:90:17
-element-write-ends : tie.Need-element-write-ends Inv-loop2 μ-loop2 Inv-loop μ-loop
-element-write-ends c = in-slots (c .before .before .before .before .before .before .before .before)
-
--- src/after.rt:95:13
-add-t : tie.Need-add-t Inv-loop2 μ-loop2 Inv-loop μ-loop
-add-t c = search needs
-
--- src/after.rt:84:9
-loop2-less : tie.Need-loop2-less Inv-loop2 μ-loop2 Inv-loop μ-loop
-loop2-less c = search needs
-
--- src/after.rt:84:9
-loop2-again : tie.Need-loop2-again Inv-loop2 μ-loop2 Inv-loop μ-loop
-loop2-again c =
-    let s = c .before .before in
-    let h = s .before .loop2 in
-    let i = h .inv in
-    let f = entry s .pre .0 .waits .fit in
+-- At y + more, or further on at `start`.
+begun : (c : tie.Joined1 Inv-loop μ-loop) → Begun (c .before .before .before .before) (c .if1 .ends) (c .if1 .x)
+begun c =
+    let s = c .before .before .before .before in
+    let e = s .pre .0 in
     ⊎-elim
     (λ w.
-    let within : w .4 .result .x ≤ entry s .args .bound = omega (arith, w .6 .left, w .5 .ensures .0) in
-    let up = grows _ _ _ _ _ _ f (i .3) _ (listed s) _ _ (w .4 .ensures) (w .0 .taken) within in
-    rw (w .7, w .8, w .9, w .10) (
-      omega (arith, listed s),
-      omega arith,
-      length-set (h .ends) (h .t) (w .4 .result .end) ∙ i .2,
-      climbs-on _ _ _ _ _ _ f (i .3) _ (listed s) _ _ (w .4 .ensures) (room s) within,
-      omega (arith, climb-small _ _ _ _ _ _ f (climbs-on _ _ _ _ _ _ f (i .3) _ (listed s) _ _ (w .4 .ensures) (room s) within) _ (total-starts _ _ _ _ _ _ (entry s .pre .0)) (entry s .pre .1) within),
-      now-ahead _ _ _ _ _ _ f (i .3) _ (listed s) _ _ (w .4 .ensures) (room s) within,
-      λ j a b. absurd (omega arith),
-      omega (arith, i .7, up),
-      λ _. omega (arith, i .7, up),
-      omega arith,
-    ))
-    (λ w.
-    rw (w .1, w .2, w .3, w .4) (
-      omega (arith, s .loop2-test .taken),
-      i .1,
-      i .2,
-      i .3,
-      i .4,
-      λ j a b. ⊎-elim (λ (q : h .t ≤ j). let same : j ≡ h .t = omega arith in rw same (w .0 .left)) (λ (q : j < h .t). i .5 j a q) (le-or-lt (h .t) j),
-      i .6,
-      i .7,
-      i .8,
-      omega (arith, i .9),
-    ))
+    let climbing = climbs-start _ _ _ _ _ _ _ _ e (w .2 .ensures) (w .0 .taken) in
+    let small = climb-small _ _ _ _ _ _ (e .waits .fit) climbing _ (total-starts _ _ _ _ _ _ _ _ e) (s .pre .1) (omega (arith, w .4 .left, w .3 .ensures .0)) in
+    begun-at s (w .5) (w .6) (climbing, omega (arith, small), w .2 .ensures .same-length))
+    (λ w. begun-at s (w .1) (w .2) (climbs-from _ _ _ _ _ _ _ _ e, e .waits .small, refl))
     (c .if1 .came)
 
--- src/after.rt:98:13
-returns-2 : tie.Need-returns-2 Inv-loop2 μ-loop2 Inv-loop μ-loop
-returns-2 c =
-    let h = c .before .before in
-    let s = h .before .before .before .before in
+-- At load t.
+module _ (c : tie.At-loop Inv-loop μ-loop) where
+  abbrev entry : tie.Start Inv-loop μ-loop
+  entry = c .before .before .before .before .before .before
+
+  in-slots : c .loop .t < 8
+  in-slots = omega (arith, c .loop .inv .0, entry .pre .0 .waits .few)
+
+  all-ends : length (c .loop .ends) ≡ length (entry .args .ends .now)
+  all-ends = c .loop .inv .2 ∙ begun (c .before .before) .2
+
+  room : c .loop .t < length (c .loop .ends)
+  room = omega (arith, c .loop .inv .0, entry .pre .0 .with-end, all-ends)
+
+  -- What holds once load t is ahead.
+  abbrev Stepped : List ℕ → (x last : ℕ) → Type 0
+  Stepped ends x last =
+      (last < entry .args .n) × (length ends ≡ length (c .loop .ends)) × Climbing (entry .args .periods .now) (entry .args .costs .now) ends (entry .args .n) (constant entry) x × (x < 2 ^ 25) ×
+      Passed ends x (entry .args .n) last (c .loop .t) × ((c .loop .x < x) ⊎ ((x ≡ c .loop .x) × (last ≡ c .loop .last)))
+
+  stepped-at : {ends ends′ : List ℕ} {x x′ last last′ : ℕ} → ends ≡ ends′ → x ≡ x′ → last ≡ last′ → Stepped ends′ x′ last′ → Stepped ends x last
+  stepped-at e f g b = rw (e, f, g) b
+
+-- It asks, or it was ahead.
+stepped : (c : tie.Joined4 Inv-loop μ-loop) → Stepped (c .before .before) (c .if4 .ends) (c .if4 .x) (c .if4 .last)
+stepped c =
+    let l = c .before .before in
+    let i = l .loop .inv in
+    let e = entry l .pre .0 in
+    let f = e .waits .fit in
+    ⊎-elim
+    (λ w.
+    let within : w .2 .result ≤ entry l .args .bound = omega (arith, w .4 .left, w .3 .ensures .0) in
+    let climbing = climbs-on _ _ _ _ _ _ f (i .3) _ (i .0) _ _ _ (w .2 .ensures) (room l) within in
+    let small = climb-small _ _ _ _ _ _ f climbing _ (total-starts _ _ _ _ _ _ _ _ e) (entry l .pre .1) within in
+    stepped-at l (w .5) (w .6) (w .7) (
+      i .0,
+      w .2 .ensures .same-length,
+      climbing,
+      omega (arith, small),
+      passes-anew _ _ _ _ (now-ahead _ _ _ _ _ _ f (i .3) _ (i .0) _ _ _ (w .2 .ensures) (room l) within),
+      inl (grows _ _ _ _ _ _ f (i .3) _ (i .0) _ _ _ (w .2 .ensures) (w .0 .taken) within),
+    ))
+    (λ w. stepped-at l (w .1) (w .2) (w .3) (i .1, refl, i .3, i .4, passes _ _ _ _ _ (i .5) (w .0 .left), inr (refl, refl)))
+    (c .if4 .came)
+
+-- On to the next load.
+module _ (c : tie.Joined6 Inv-loop μ-loop) where
+  abbrev at : tie.At-loop Inv-loop μ-loop
+  at = c .before .before .before
+
+  onward : Next (entry at .args .n) (at .loop .t) (c .if6 .t)
+  onward =
+      ⊎-elim (λ w. inl (w .0 .taken, w .1)) (λ w. inr (omega (arith, w .0 .left, at .loop .inv .0), w .1)) (c .if6 .came)
+
+-- src/after.rt:110:17
+add-x : tie.Need-add-x Inv-loop μ-loop
+add-x c = search needs
+
+-- src/after.rt:112:9
+advanced-requires : tie.Need-advanced-requires Inv-loop μ-loop
+advanced-requires c κs =
+    let s = c .before .before .before .before .before in
     let e = s .pre .0 in
-    (settled _ _ _ _ _ _ (e .waits .fit) (h .loop2 .inv .3) (total-starts _ _ _ _ _ _ e) (λ t a b. ahead-from (c .before) t (omega (arith, c .if3 .taken)) b) _, h .loop2 .inv .2 ∙ h .before .loop .inv .1)
+    ((e .waits .fit, e .waits .few, e .with-end), (omega (arith, c .before .if1 .taken, e .starts .within), e .starts .within))
 
--- src/after.rt:81:5
-loop-less : tie.Need-loop-less Inv-loop2 μ-loop2 Inv-loop μ-loop
+-- src/after.rt:113:20
+wide-requires : tie.Need-wide-requires Inv-loop μ-loop
+wide-requires c κs = search needs
+
+-- src/after.rt:114:13
+returns : tie.Need-returns Inv-loop μ-loop
+returns c =
+    let a = c .before .before in
+    let s = a .before .before .before .before .before .before in
+    let e = s .pre .0 in
+    (too-far _ _ _ _ _ _ (e .waits .fit) (climbs-start _ _ _ _ _ _ _ _ e (a .advanced .ensures) (a .before .before .if1 .taken)) _ (omega (arith, c .if2 .taken, c .before .wide .ensures .0)), a .advanced .ensures .same-length)
+
+-- src/after.rt:118:9
+returns-2 : tie.Need-returns-2 Inv-loop μ-loop
+returns-2 c =
+    let e = c .before .before .before .before .before .pre .0 in
+    (settled _ _ _ _ _ _ (e .waits .fit) (begun (c .before) .0) (total-starts _ _ _ _ _ _ _ _ e) (λ t a b. absurd (omega (arith, c .if3 .taken))) _, begun (c .before) .2)
+
+-- src/after.rt:122:5
+loop-holds : tie.Need-loop-holds Inv-loop μ-loop
+loop-holds c =
+    let some = c .if3 .left in
+    (omega (arith, some), omega (arith, some), refl, begun (c .before) .0, begun (c .before) .1, round-begins _ _ _)
+
+-- src/after.rt:123:12
+mul-if4 : tie.Need-mul-if4 Inv-loop μ-loop
+mul-if4 c = record { fits = omega (arith, in-slots c) }
+
+-- src/after.rt:123:12
+element-copy-out-if4 : tie.Need-element-copy-out-if4 Inv-loop μ-loop
+element-copy-out-if4 c = in-slots c
+
+-- src/after.rt:124:13
+ask-requires : tie.Need-ask-requires Inv-loop μ-loop
+ask-requires c κs =
+    let l = c .before .before .before in
+    let e = entry l .pre .0 in
+    let i = l .loop .inv in
+    ((in-slots l, omega (arith, i .0, e .waits .fit .loads .with-period), omega (arith, i .0, e .waits .fit .loads .with-cost), omega (arith, i .0, e .free .with-free), room l), falls-behind _ _ _ _ _ _ (e .waits .fit) (i .3) _ (i .0) _ (e .free) (c .before .if4 .taken) (i .4) (total-starts _ _ _ _ _ _ _ _ e) (entry l .pre .1))
+
+-- src/after.rt:125:24
+wide-requires-2 : tie.Need-wide-requires-2 Inv-loop μ-loop
+wide-requires-2 c κs = search needs
+
+-- src/after.rt:126:17
+returns-3 : tie.Need-returns-3 Inv-loop μ-loop
+returns-3 c =
+    let k = c .before .before in
+    let l = k .before .before .before .before in
+    let i = l .loop .inv in
+    (no-solution _ _ _ _ _ _ (entry l .pre .0 .waits .fit) (i .3) _ (i .0) _ _ _ (k .ask .ensures) (omega (arith, c .if5 .taken, c .before .wide2 .ensures .0)), k .ask .ensures .same-length ∙ all-ends l)
+
+-- src/after.rt:130:9
+add-t : tie.Need-add-t Inv-loop μ-loop
+add-t c = record { fits = omega (arith, in-slots (c .before .before)) }
+
+-- src/after.rt:135:13
+returns-4 : tie.Need-returns-4 Inv-loop μ-loop
+returns-4 c =
+    let p = c .before .before in
+    let l = p .before .before in
+    let e = entry l .pre .0 in
+    let g = stepped p in
+    (settled _ _ _ _ _ _ (e .waits .fit) (g .2) (total-starts _ _ _ _ _ _ _ _ e) (comes-back _ _ _ _ _ (g .4) _ (omega (arith, c .if7 .taken)) (onward (c .before))) _, g .1 ∙ all-ends l)
+
+-- src/after.rt:122:5
+loop-less : tie.Need-loop-less Inv-loop μ-loop
 loop-less c =
-    let h = c .before .before in
-    omega (arith, h .loop2 .inv .8 (omega (arith, c .if3 .left)), h .loop2 .inv .4)
+    let p = c .before .before in
+    let l = p .before .before in
+    let g = stepped p in
+    less-left _ _ _ (l .loop .inv .0) (onward (c .before)) _ _ _ _ (entry l .pre .0 .waits .few) (g .0) (g .3) (λ k. omega (arith, c .if7 .left, k)) (g .5)
 
--- src/after.rt:81:5
-loop-again : tie.Need-loop-again Inv-loop2 μ-loop2 Inv-loop μ-loop
+-- src/after.rt:122:5
+loop-again : tie.Need-loop-again Inv-loop μ-loop
 loop-again c =
-    let h = c .before .before in
-    (omega (arith, h .loop2 .inv .9, h .loop2 .inv .0, h .loop2 .inv .1), h .loop2 .inv .2 ∙ h .before .loop .inv .1, h .loop2 .inv .3, h .loop2 .inv .4, ahead-from (c .before))
+    let p = c .before .before in
+    let l = p .before .before in
+    let g = stepped p in
+    (next-listed _ _ _ (l .loop .inv .0) (onward (c .before)), g .0, g .1 ∙ l .loop .inv .2, g .2, g .3, goes-on _ _ _ _ _ (g .4) _ (onward (c .before)))
 
 pub climb-spec : {M : Type 1} → statement M
 climb-spec =
     tie.close
     (tie.spec
-    Inv-loop2
-    μ-loop2
     Inv-loop
     μ-loop
     add-x
-    loop-holds
-    loop2-holds
-    mul-if1
-    element-copy-out-if1
-    mul-caught-up
-    element-copy-out-caught-up
-    mul-caught-up-2
-    shared-slice-read-caught-up
-    mul-caught-up-3
-    shared-slice-read-caught-up-2
-    caught-up-requires
+    advanced-requires
     wide-requires
     returns
-    mul-ends
-    element-write-ends
-    add-t
-    loop2-less
-    loop2-again
     returns-2
+    loop-holds
+    mul-if4
+    element-copy-out-if4
+    ask-requires
+    wide-requires-2
+    returns-3
+    add-t
+    returns-4
     loop-less
     loop-again)

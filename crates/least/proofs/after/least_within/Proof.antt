@@ -9,16 +9,16 @@ use Rattle.least.proofs.after.least_within.Reads as reads
 use Rattle.least.proofs.after.least_within.Lts as lts
 use Rattle.least.proofs.after.climb.Reads as climb-reads
 
--- src/after.rt:139:5
+-- src/after.rt:176:5
 climb-requires : tie.Need-climb-requires
-climb-requires c κs = (c .before .before .before .pre .0, inr (c .before .before .before .pre .1))
+climb-requires c κs = (c .before .before .before .before .pre .0, inr (c .before .before .before .before .pre .1))
 
--- src/after.rt:126:1
+-- src/after.rt:161:1
 returns : tie.Need-returns
 returns c =
-    let s = c .before .before .before .before in
+    let s = c .before .before .before .before .before in
     let f = c .climb .ensures .0 in
-    let w = within-bound _ _ _ _ _ _ (s .pre .0) (s .pre .1) (omega arith) f in
+    let w = within-bound _ _ _ _ _ _ _ _ (s .pre .0) (s .pre .1) (omega arith) f in
     (f .at w, (f .ends-at w, c .climb .ensures .1))
 
 pub least-within-spec : {M : Type 1} → statement M
