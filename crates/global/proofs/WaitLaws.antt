@@ -9,12 +9,14 @@ use mathlib.Core.Option.{Option, none, some}
 use lib.ListN.{length, getD, set, replicate, length-set, length-replicate}
 use Rattle.least.specs.Up.{up}
 use Rattle.least.specs.Demand.{demand, total}
+use Rattle.least.specs.Share.{unit, shares, standingAt}
 use Rattle.least.specs.Least.{least}
 use Rattle.least.specs.Search.{Stands, Comes-down, IsLeast}
 use Rattle.least.specs.After.{Fit, EndsAt, afterwards, Waits, Frees, Starts, After, Found}
 use Rattle.least.proofs.Up.{up-pos, up-is-tight}
 use Rattle.least.proofs.Demand.{demand-suc, demand-at-none, total-mono}
 use Rattle.least.proofs.Search.{stands-next}
+use Rattle.least.proofs.ShareLaws.{standing-starts}
 use Rattle.least.proofs.LeastLaws.{least-found, least-nowhere}
 use Rattle.least.proofs.ClimbLaws.{fit-fewer, ends-at-none, ends-at-more, starts-nowhere}
 use Rattle.table.specs.Limits.{most, horizon}
@@ -106,6 +108,15 @@ module _ (v : View) (sv : Sound-view v) where
 
       pub next-found : {z : ℕ} → IsLeast (total (v .periods) (v .costs) (v .place) (afterwards (v .periods) (v .costs) (v .place) end own-cost)) z → z ≡ budgetEnd v (k + 1)
       next-found i = budget-found v sv next (rw same-ahead at i)
+
+  -- Where the search for a budget end may stand, by what the higher subsystems leave free of every tick: as the code computes it.
+  pub starts-by-spare :
+      (k : ℕ) {c spare start : ℕ} (x : ℕ) → c ≡ cost v → spare ≡ unit - shares (v .periods) (v .costs) (v .place) → 1 ≤ spare →
+      start ≡ standingAt (v .blocking + k * c + v .budget) spare → Starts (total (v .periods) (v .costs) (v .place) (ahead v k)) x start
+  unfolding ahead
+  starts-by-spare k {c} {spare} {start} x e h from g =
+      standing-starts (v .periods) (v .costs) (v .place) (v .blocking + k * cost v + v .budget) spare x start (higher-loads v sv) h from
+      (g ∙ ap (λ (y : ℕ). standingAt (v .blocking + k * y + v .budget) spare) e)
 
   -- What the search for the first budget end says.
   module _ {ends : List ℕ} {r : ℕ} (g : Found (v .periods) (v .costs) ends (v .place) (afterwards (v .periods) (v .costs) (v .place) 0 (v .blocking + v .budget)) horizon r) where

@@ -12,7 +12,7 @@ use Rattle.table.specs.Limits.{most, largest, horizon}
 use Rattle.global.specs.Interfaces.{InterfacesM}
 use Rattle.global.specs.Parts.{count, periodOf, budgetOf, holding}
 use Rattle.global.specs.View.{View, resources, held, ceiling, cost}
-use Rattle.global.specs.Ends.{activePeriod, jobs, ahead}
+use Rattle.global.specs.Ends.{activePeriod, jobs, ahead, budgetEnd}
 
 -- Interfaces of an admitted table: counts within the limit, 1 ≤ Q, and Q + X ≤ P ≤ 1,000,000.
 pub record Sound (g : InterfacesM) : Type 0 where
@@ -59,6 +59,12 @@ pub record First-end (v : View) (ends : List ℕ) (first : ℕ) : Type 0 where
 pub record Active (v : View) (r : ℕ) : Type 0 where
   pub at : r ≤ horizon → activePeriod v ≡ some r
   pub beyond : horizon < r → activePeriod v ≡ none
+
+-- The budget of job k ends at `end`, and the higher subsystems' periods begun by then at `ends`.
+pub record Ended (v : View) (k end : ℕ) (ends : List ℕ) : Type 0 where
+  pub is-end : end ≡ budgetEnd v k
+  pub with-end : most ≤ length ends
+  pub ends-at : EndsAt (v .periods) ends (v .place) end
 
 -- Every resource that is held has the highest ceiling: no higher subsystem comes between once the budget has ended.
 abbrev pub Plain : List ℕ → List ℕ → Type 0

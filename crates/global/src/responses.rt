@@ -1,21 +1,25 @@
 // Budget ends, job ends and responses of one subsystem, over every job of its active period.
+use least::demand_in;
 use least::least_within;
 use least::round_up;
+use least::spare_of;
+use least::standing;
 use numbers::wide;
 use table::Table;
 ghost use mathlib.Core.Path.{_≡_};
 ghost use mathlib.Core.Bool.{true, cond};
 ghost use Prim.Native.Nat.{_+_, _-_, _*_, _^_, _≤_, _<_};
 ghost use lib.Dec.{ltb};
-ghost use lib.ListN.{length};
+ghost use lib.ListN.{length, getD};
 ghost use Rattle.least.specs.Demand.{total};
-ghost use Rattle.least.specs.Search.{IsLeast};
+ghost use Rattle.least.specs.Search.{Loads, IsLeast, reach};
+ghost use Rattle.least.specs.Share.{unit, shares};
 ghost use Rattle.least.specs.After.{Frees, EndsAt, afterwards};
 ghost use Rattle.table.specs.Limits.{most};
 ghost use Rattle.global.specs.Response.{responseWith};
 ghost use Rattle.global.specs.Ends.{budgetEnd};
 ghost use Rattle.global.specs.Computed.{seenBy, Budget-over, bestOf, jobOf, worstOf};
-ghost use Rattle.global.specs.Sound.{Sound-view, Counted, Jobs, First-end, Plain};
+ghost use Rattle.global.specs.Sound.{Sound-view, Counted, Jobs, First-end, Ended, Plain};
 
 // What a subsystem knows of itself: s, P(s), Q(s) and B(s).
 pub struct Own {
@@ -216,6 +220,58 @@ fn settled_from(worst: Worst, room: u32, free: u32, last: u32) -> u32
     if first < last { first } else { last }
 }
 
+// What the higher subsystems leave free of every tick, in the parts of crate `least`, where jobs wait for so long that it pays to start
+// their searches by it: further than they would begin by more than twice what the higher ones ask for at once. Else 0.
+fn spare_for_jobs(periods: &[u32], costs: &[u32], own: Own, first: u32) -> u64
+    requires { ⌜ Loads (now periods) (now costs) (own .place) × (own .place < length (now costs)) × (getD (now costs) (own .place) 0 < reach) ⌝ }
+    ensures { λ r. ⌜ (1 ≤ r → r ≡ unit - shares (now (periods .entry)) (now (costs .entry)) (own .place)) ⌝ }
+{
+    let s = own.place;
+    if first <= own.period {
+        return 0;
+    }
+    let spare = spare_of(periods, costs, s);
+    if spare == 0 {
+        return 0;
+    }
+    let reached = wide(standing(costs[s], spare));
+    let once = demand_in(periods, costs, s, 1);
+    if reached < wide(costs[s]) + once + once {
+        return 0;
+    }
+    spare
+}
+
+// F(k + 1), searched from F(k), which is `end`, with Q + X more to wait for. `ends` holds where the higher subsystems' periods begun by
+// F(k) end, and then by F(k + 1). Where the higher ones are known to leave `spare` free of every tick, that says where to begin.
+fn next_end(
+    periods: &[u32],
+    costs: &[u32],
+    frees: &[u32],
+    holdings: &[u32],
+    ceilings: &[usize],
+    own: Own,
+    k: u32,
+    spare: u64,
+    end: u32,
+    ends: &mut [u32; Table::MOST],
+) -> u32
+    requires { ⌜ Sound-view (seenBy (now periods) (now costs) (now holdings) (now ceilings) own) ⌝ }
+    requires { ⌜ Counted (seenBy (now periods) (now costs) (now holdings) (now ceilings) own) (k + 1) ⌝ }
+    requires { ⌜ Frees (now periods) (now costs) (now frees) (own .place + 1) ⌝ }
+    requires { ⌜ (1 ≤ spare → spare ≡ unit - shares (now periods) (now costs) (own .place)) ⌝ }
+    requires { ⌜ Ended (seenBy (now periods) (now costs) (now holdings) (now ceilings) own) k end (now ends) ⌝ }
+    ensures { λ r. ⌜ Ended (seenBy (now (periods .entry)) (now (costs .entry)) (now (holdings .entry)) (now (ceilings .entry)) own) (k + 1) r (now (ends .exit)) ⌝ }
+{
+    let s = own.place;
+    let cost = costs[s];
+    if spare == 0 {
+        return least_within(periods, costs, frees, s, ends, end, cost, 0);
+    }
+    let start = standing(own.blocking + (k + 1) * cost + own.budget, spare);
+    least_within(periods, costs, frees, s, ends, end, cost, start)
+}
+
 // The largest response over the n jobs of the active period, the first job that has it, and that job's lowest resource. The
 // first budget end is known; each other is searched from where the last one was found, with Q + X more to wait for. A job's own
 // end is looked for only where there is room for a larger response, and none where no later job has room.
@@ -251,10 +307,13 @@ pub(crate) fn largest_response(
     let last = n - 1;
     let room = active - last * cost;
     let plain = is_plain(holdings, ceilings);
+    let spare = spare_for_jobs(periods, costs, own, first);
     let mut until = last;
     while k < until {
         let before = reached;
-        let next = least_within(periods, costs, frees, s, &mut reached, end, cost, 0);
+        let next = next_end(
+            periods, costs, frees, holdings, ceilings, own, k, spare, end, &mut reached,
+        );
         let latest = latest_end(own, plain, cost, end, next);
         if may_be_worse(own, worst, k, latest) {
             let job = job_response(periods, costs, frees, holdings, ceilings, own, k, end, before);

@@ -11,13 +11,18 @@ use crate::responses::Own;
 use crate::responses::largest_response;
 use least::least_after;
 use least::round_up;
+use least::spare_of;
+use least::standing;
 use table::Table;
 ghost use mathlib.Core.Path.{_≡_};
 ghost use mathlib.Core.Option.{none, some};
 ghost use lib.ListN.{take};
-ghost use Rattle.least.specs.After.{Frees};
+ghost use Rattle.least.specs.Demand.{total};
+ghost use Rattle.least.specs.Search.{Loads, reach};
+ghost use Rattle.least.specs.After.{Frees, Starts};
+ghost use Rattle.table.specs.Limits.{most};
 ghost use Rattle.least.specs.Share.{Fitting};
-ghost use Prim.Native.Nat.{_+_, _-_, _≤_, _<_};
+ghost use Prim.Native.Nat.{ℕ, _+_, _-_, _≤_, _<_};
 ghost use Rattle.global.specs.Interfaces.{interfacesIn};
 ghost use Rattle.global.specs.declared.Outcome.the-variants.{None};
 ghost use Rattle.global.specs.Ends.{activePeriod};
@@ -99,6 +104,25 @@ fn row_without(own: Own, cost: u32, failing: u32) -> Row
     }
 }
 
+// Where the search for the active period may stand: what blocks reaches as far as the subsystems leave free of every tick. Only where
+// the first budget ends after its period is that worth knowing. 0 stands for no such number.
+fn active_start(periods: &[u32], costs: &[u32], own: Own, first: u32) -> u32
+    requires { ⌜ Loads (now periods) (now costs) (own .place + 1) × (own .place < most) × (own .blocking < reach) ⌝ }
+    ensures { λ r. ⌜ ((x : ℕ) → Starts (total (now (periods .entry)) (now (costs .entry)) (own .place + 1) (own .blocking)) x r) ⌝ }
+{
+    if first <= own.period {
+        return 0;
+    }
+    if own.blocking == 0 {
+        return 0;
+    }
+    let spare = spare_of(periods, costs, own.place + 1);
+    if spare == 0 {
+        return 0;
+    }
+    standing(own.blocking, spare)
+}
+
 // The active period, where it is at most the horizon; else something above it. The search goes on from the first budget end: by
 // then what blocks and the higher subsystems' periods are waited for in any case, and so are the subsystem's own that have begun.
 fn active_from(
@@ -121,6 +145,7 @@ fn active_from(
     let mut reached = ends;
     reached[s] = begun * own.period;
     let more = begun * costs[s] - own.budget;
+    let start = active_start(periods, costs, own, first);
     least_after(
         periods,
         costs,
@@ -129,7 +154,7 @@ fn active_from(
         &mut reached,
         first,
         more,
-        0,
+        start,
         Table::HORIZON,
     )
 }

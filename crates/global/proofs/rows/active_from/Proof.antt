@@ -9,7 +9,6 @@ use Rattle.global.specs.Computed.{seenBy}
 use Rattle.global.proofs.ActiveLaws.{period-pos}
 use Rattle.global.proofs.WaitLaws.{own-holds, own-small, blocking-left, active-after, active-found}
 use native.Mathlib.Omega.{arith}
-use Rattle.least.proofs.ClimbLaws.{starts-nowhere}
 use borrow.Author.Needs.{needs}
 use Rattle.global.proofs.rows.active_from.Statement.{statement}
 use Rattle.global.proofs.rows.active_from.Tie as tie
@@ -72,19 +71,24 @@ sub-more c =
     omega (arith, asked-is r, own-holds _ (entry r .pre .0) (entry r .pre .1 .0))
 
 -- src/rows.rt:110:9
+active-start-requires : tie.Need-active-start-requires
+active-start-requires c κs =
+    let s = c .before .before .before .before .before .before .before .before .before in
+    (s .pre .0 .fit .loads, s .pre .0 .few, omega (arith, s .pre .0 .blocking-small))
+
 add-least-after : tie.Need-add-least-after
 add-least-after c = search needs
 
 -- src/rows.rt:107:5
 least-after-requires : tie.Need-least-after-requires
 least-after-requires c κs =
-    let r = c .before .before .before .before in
-    (rw (end-is r, more-is r) (active-after _ (entry r .pre .0) (entry r .pre .1 .0) (entry r .pre .1 .1) (starts-nowhere _ _)), omega arith)
+    let r = c .before .before .before .before .before in
+    (rw (end-is r, more-is r) (active-after _ (entry r .pre .0) (entry r .pre .1 .0) (entry r .pre .1 .1) (c .before .active-start .ensures _)), omega arith)
 
 -- src/rows.rt:89:1
 returns : tie.Need-returns
 returns c =
-    let r = c .before .before .before .before .before in
+    let r = c .before .before .before .before .before .before in
     active-found _ (entry r .pre .0) (rw (more-is r, blocking-left _ (entry r .pre .0) (entry r .pre .1 .0)) at (c .least-after .ensures .0))
 
 pub active-from-spec : {M : Type 1} → statement M
@@ -99,6 +103,7 @@ active-from-spec =
     shared-slice-read-more
     mul-more-2
     sub-more
+    active-start-requires
     add-least-after
     least-after-requires
     returns)
