@@ -44,9 +44,10 @@ pub frees-fit :
     (n m : ℕ) (lines : List (List ℕ)) (p c : List ℕ) → Sound (interfacesIn n m lines) → p ≡ padded (periodAt lines) 0 most n → c ≡ padded (costOf (interfacesIn n m lines)) 0 most n →
     ((n ≤ most) × (n ≤ length p) × (n ≤ length c)) × ((t : ℕ) → t < n → getD c t 0 ≤ getD p t 0)
 frees-fit n m lines p c sound e f =
-    let few = few-of n m lines sound in
-    ((few, omega (arith, ap length e, length-padded (periodAt lines) 0 most n few), omega (arith, ap length f, length-padded (costOf (interfacesIn n m lines)) 0 most n few)),
-    λ t u. omega (arith, at-slot (periodAt lines) e t u ∙ sym (period-of-slot n m lines t u), at-slot (costOf (interfacesIn n m lines)) f t u, fits t u))
+    let few = few-of n m lines sound in (
+      (few, omega (arith, ap length e, length-padded (periodAt lines) 0 most n few), omega (arith, ap length f, length-padded (costOf (interfacesIn n m lines)) 0 most n few)),
+      λ t u. omega (arith, at-slot (periodAt lines) e t u ∙ sym (period-of-slot n m lines t u), at-slot (costOf (interfacesIn n m lines)) f t u, fits t u),
+    )
   where
     at-slot : (g : ℕ → ℕ) {xs : List ℕ} → xs ≡ padded g 0 most n → (t : ℕ) → t < n → getD xs t 0 ≡ g t
     at-slot g q t u = ap (λ (ys : List ℕ). getD ys t 0) q ∙ getD-padded g 0 0 most n t u

@@ -85,11 +85,7 @@ fn costs_of(lines: &[[u32; WIDTH]; Table::MOST], n: usize, m: usize) -> [u32; Ta
 }
 
 // What each of n subsystems leaves free of its period.
-fn frees_of(
-    periods: [u32; Table::MOST],
-    costs: [u32; Table::MOST],
-    n: usize,
-) -> [u32; Table::MOST]
+fn frees_of(periods: [u32; Table::MOST], costs: [u32; Table::MOST], n: usize) -> [u32; Table::MOST]
     requires { ⌜ (n ≤ most) × (n ≤ length periods) × (n ≤ length costs) ⌝ }
     requires { ⌜ ((t : ℕ) → t < n → getD costs t 0 ≤ getD periods t 0) ⌝ }
     ensures { λ r. ⌜ r ≡ padded (λ t. getD periods t 0 - getD costs t 0) 0 most n ⌝ }

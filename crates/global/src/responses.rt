@@ -167,11 +167,15 @@ fn job_response(
     }
 }
 
-// Whether no higher subsystem comes between once the budget has ended: every resource that is held has the highest ceiling.
-fn is_plain(holdings: &[u32], ceilings: &[usize]) -> bool
+// Whether no higher subsystem comes between once the budget has ended: every resource that is held has the highest ceiling. For a row of
+// one job nobody wants to know, and the answer is no.
+fn is_plain(holdings: &[u32], ceilings: &[usize], n: u32) -> bool
     requires { ⌜ length (now holdings) ≤ length (now ceilings) ⌝ }
     ensures { λ r. ⌜ (r ≡ true → Plain (now (holdings .entry)) (now (ceilings .entry))) ⌝ }
 {
+    if n == 1 {
+        return false;
+    }
     let mut l: usize = 0;
     while l < holdings.len() {
         if holdings[l] != 0 {
@@ -220,14 +224,15 @@ fn settled_from(worst: Worst, room: u32, free: u32, last: u32) -> u32
     if first < last { first } else { last }
 }
 
-// What the higher subsystems leave free of every tick, in the parts of crate `least`, where jobs wait for so long that it pays to start
-// their searches by it: further than they would begin by more than twice what the higher ones ask for at once. Else 0.
-fn spare_for_jobs(periods: &[u32], costs: &[u32], own: Own, first: u32) -> u64
+// What the higher subsystems leave free of every tick, in the parts of crate `least`, where there are many jobs and each waits for so
+// long that it pays to start its search by it: further than it would begin by more than twice what the higher ones ask for at once.
+// Else 0.
+fn spare_for_jobs(periods: &[u32], costs: &[u32], own: Own, n: u32) -> u64
     requires { ⌜ Loads (now periods) (now costs) (own .place) × (own .place < length (now costs)) × (getD (now costs) (own .place) 0 < reach) ⌝ }
     ensures { λ r. ⌜ (1 ≤ r → r ≡ unit - shares (now (periods .entry)) (now (costs .entry)) (own .place)) ⌝ }
 {
     let s = own.place;
-    if first <= own.period {
+    if n < 16 {
         return 0;
     }
     let spare = spare_of(periods, costs, s);
@@ -306,17 +311,36 @@ pub(crate) fn largest_response(
     let free = own.period - cost;
     let last = n - 1;
     let room = active - last * cost;
-    let plain = is_plain(holdings, ceilings);
-    let spare = spare_for_jobs(periods, costs, own, first);
+    let plain = is_plain(holdings, ceilings, n);
+    let spare = spare_for_jobs(periods, costs, own, n);
     let mut until = last;
     while k < until {
         let before = reached;
         let next = next_end(
-            periods, costs, frees, holdings, ceilings, own, k, spare, end, &mut reached,
+            periods,
+            costs,
+            frees,
+            holdings,
+            ceilings,
+            own,
+            k,
+            spare,
+            end,
+            &mut reached,
         );
         let latest = latest_end(own, plain, cost, end, next);
         if may_be_worse(own, worst, k, latest) {
-            let job = job_response(periods, costs, frees, holdings, ceilings, own, k, end, before);
+            let job = job_response(
+                periods,
+                costs,
+                frees,
+                holdings,
+                ceilings,
+                own,
+                k,
+                end,
+                before,
+            );
             worst = worse(worst, job, k);
             until = settled_from(worst, room, free, last);
         }
@@ -326,6 +350,16 @@ pub(crate) fn largest_response(
     if until < last {
         return worst;
     }
-    let job = job_response(periods, costs, frees, holdings, ceilings, own, k, end, reached);
+    let job = job_response(
+        periods,
+        costs,
+        frees,
+        holdings,
+        ceilings,
+        own,
+        k,
+        end,
+        reached,
+    );
     worse(worst, job, k)
 }

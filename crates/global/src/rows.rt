@@ -105,15 +105,12 @@ fn row_without(own: Own, cost: u32, failing: u32) -> Row
 }
 
 // Where the search for the active period may stand: what blocks reaches as far as the subsystems leave free of every tick. Only where
-// the first budget ends after its period is that worth knowing. 0 stands for no such number.
+// the first budget ends some periods late is that worth knowing. 0 stands for no such number.
 fn active_start(periods: &[u32], costs: &[u32], own: Own, first: u32) -> u32
     requires { ⌜ Loads (now periods) (now costs) (own .place + 1) × (own .place < most) × (own .blocking < reach) ⌝ }
     ensures { λ r. ⌜ ((x : ℕ) → Starts (total (now (periods .entry)) (now (costs .entry)) (own .place + 1) (own .blocking)) x r) ⌝ }
 {
-    if first <= own.period {
-        return 0;
-    }
-    if own.blocking == 0 {
+    if first / 4 <= own.period {
         return 0;
     }
     let spare = spare_of(periods, costs, own.place + 1);
@@ -183,7 +180,17 @@ fn row_seen(
     }
     let mut ends = [0u32; Table::MOST];
     let ahead = own.blocking + own.budget;
-    let first = least_after(periods, costs, frees, s, &mut ends, 0, ahead, 0, Table::HORIZON);
+    let first = least_after(
+        periods,
+        costs,
+        frees,
+        s,
+        &mut ends,
+        0,
+        ahead,
+        0,
+        Table::HORIZON,
+    );
     if Table::HORIZON < first {
         return row_without(own, cost, failing);
     }

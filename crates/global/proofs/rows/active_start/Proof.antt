@@ -14,38 +14,33 @@ use Rattle.least.proofs.standing.Reads as standing-reads
 returns : tie.Need-returns
 returns c = λ x. starts-nowhere _ x
 
+-- src/rows.rt:119:42
+add-spare-of : tie.Need-add-spare-of
+add-spare-of c = omega (arith, c .before .before .before .before .before .pre .1)
+
+-- src/rows.rt:119:9
+spare-of-requires : tie.Need-spare-of-requires
+spare-of-requires c κs = c .before .before .before .before .before .pre .0
+
 -- src/rows.rt:117:9
 returns-2 : tie.Need-returns-2
 returns-2 c = λ x. starts-nowhere _ x
 
--- src/rows.rt:119:42
-add-spare-of : tie.Need-add-spare-of
-add-spare-of c = omega (arith, c .before .before .before .before .before .before .before .pre .1)
-
--- src/rows.rt:119:9
-spare-of-requires : tie.Need-spare-of-requires
-spare-of-requires c κs = c .before .before .before .before .before .before .before .pre .0
-
--- src/rows.rt:121:9
-returns-3 : tie.Need-returns-3
-returns-3 c = λ x. starts-nowhere _ x
-
 -- src/rows.rt:123:5
 standing-requires : tie.Need-standing-requires
-standing-requires c κs = (c .before .before .before .before .before .before .before .before .before .pre .2, omega (arith, c .if3 .left))
+standing-requires c κs = (c .before .before .before .before .before .before .before .pre .2, omega (arith, c .if2 .left))
 
 -- src/rows.rt:109:1
-returns-4 : tie.Need-returns-4
-returns-4 c = λ x. standing-starts _ _ _ _ _ x _ (c .before .before .before .before .before .before .before .before .before .before .pre .0) (c .before .before .spare-of .ensures) (omega (arith, c .before .if3 .left)) (c .standing .ensures)
+returns-3 : tie.Need-returns-3
+returns-3 c = λ x. standing-starts _ _ _ _ _ x _ (c .before .before .before .before .before .before .before .before .pre .0) (c .before .before .spare-of .ensures) (omega (arith, c .before .if2 .left)) (c .standing .ensures)
 
 pub active-start-spec : {M : Type 1} → statement M
 active-start-spec =
     tie.close
     (tie.spec
     returns
-    returns-2
     add-spare-of
     spare-of-requires
-    returns-3
+    returns-2
     standing-requires
-    returns-4)
+    returns-3)
