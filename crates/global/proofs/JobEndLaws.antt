@@ -1,11 +1,15 @@
 -- Laws of job ends (step 10): every job of an active period has one for each resource that counts, none is above the active
 -- period, the search for it starts at F(k) + X(s, l), and its constant part is what F(k) leaves. Assumes nothing.
 use Prim.Native.Nat.{ℕ, _+_, _-_, _*_, _≤_, _<_}
+use native.Mathlib.Nat.{mul-le-mul-right}
 use native.Mathlib.Omega.{arith}
 use mathlib.Core.Path.{_≡_, refl, sym, ap, _∙_}
 use mathlib.Core.Option.{some}
 use mathlib.Core.List.{List}
-use Rattle.lists.proofs.Over.{sumTo-zero}
+use lib.ListN.{getD}
+use Rattle.lists.proofs.Over.{sumTo-zero, sumTo-mono}
+use Rattle.least.specs.Up.{up}
+use Rattle.least.proofs.Up.{up-is-least}
 use Rattle.least.specs.Demand.{loadIn, demand, demandBetween, total}
 use Rattle.least.specs.Least.{least}
 use Rattle.least.specs.Search.{Loads, Stands, Comes-down, IsLeast}
@@ -119,6 +123,23 @@ module _ (v : View) (sv : Sound-view v) {k : ℕ} (ct : Counted v k) (l : ℕ) (
     where
       nothing-open : (x : ℕ) → open-in v l x ≡ 0
       nothing-open x = rw e (demand-of-none (v .periods) (v .costs) x)
+
+      job-constant-is : jobConstant v k l ≡ ahead v k + held v l + shut-in v l (budgetEnd v k)
+      job-constant-is = unfold shutOut in refl
+
+  -- Where no higher subsystem has a period that begins before it, it is no later than that either.
+  pub job-end-unasked : ((t : ℕ) → t < v .place → budgetEnd v k + held v l ≤ up (budgetEnd v k) (getD (v .periods) t 0) * getD (v .periods) t 0) → jobEnd v k l ≤ budgetEnd v k + held v l
+  job-end-unasked quiet =
+      stands-below (jobTotal v k l) (least-stands (jobTotal v k l) job-end-is-least) (omega (arith, budget-end-is-least v sv ct .from))
+      (omega (arith, job-total v k l (budgetEnd v k + held v l), constant-by-end, job-constant-is, no-more))
+    where
+      no-more : open-in v l (budgetEnd v k + held v l) ≤ open-in v l (budgetEnd v k)
+      no-more =
+          unfold demand loadIn in
+          sumTo-mono (loadIn (v .periods) (v .costs) (budgetEnd v k + held v l)) (loadIn (v .periods) (v .costs) (budgetEnd v k)) (ceiling v l)
+          (λ t u.
+          mul-le-mul-right (getD (v .costs) t 0)
+          (up-is-least (budgetEnd v k + held v l) (getD (v .periods) t 0) (up (budgetEnd v k) (getD (v .periods) t 0)) (open-loads .period-pos t u) (quiet t (omega (arith, reaches)))))
 
       job-constant-is : jobConstant v k l ≡ ahead v k + held v l + shut-in v l (budgetEnd v k)
       job-constant-is = unfold shutOut in refl

@@ -1,5 +1,5 @@
 -- Laws of the jobs whose end need not be looked for: a job ends Q before the next one's budget does, or earlier, and within X of its
--- own where no higher subsystem comes between. Where that leaves no room for a larger response than the worst so far, the worst so
+-- own where no higher subsystem comes between or has a period that begins meanwhile. Where that leaves no room for a larger response than the worst so far, the worst so
 -- far stays; and where no later job has room, it is the worst of all. Assumes nothing.
 use Prim.Native.Nat.{ℕ, zero, suc, _+_, _-_, _*_, _≤_, _<_}
 use native.Mathlib.Nat.{add-zero, add-assoc, add-mul, mul-add, suc-mul, mul-le-mul-right}
@@ -7,7 +7,10 @@ use native.Mathlib.Omega.{arith}
 use native.Mathlib.Numerals.{add-one}
 use mathlib.Core.Path.{_≡_, refl, sym, ap, _∙_}
 use mathlib.Core.Bool.{Bool, true, false, cond}
-use mathlib.Core.Logic.{⊎-elim}
+use mathlib.Core.Logic.{_⊎_, inl, inr, ⊎-elim}
+use mathlib.Core.List.{List}
+use lib.ListN.{getD}
+use Rattle.least.specs.Up.{up}
 use borrow.Author.Tests.{lt-ltb, ltb-false}
 use lib.Dec.{ltb}
 use Rattle.lists.specs.Range.{largestTo}
@@ -15,13 +18,13 @@ use Rattle.lists.proofs.Over.{le-or-lt, largestTo-zero, below-largest, largest-
 use Rattle.global.specs.View.{View, resources, held, ceiling, overrun, cost}
 use Rattle.global.specs.Ends.{budgetEnd, jobEnd}
 use Rattle.global.specs.Response.{responseWith, jobResponse, response}
-use Rattle.global.specs.Sound.{Sound-view, Counted, Jobs, Plain}
+use Rattle.global.specs.Sound.{Sound-view, Counted, Jobs, Ended, Plain}
 use Rattle.global.specs.Computed.{jobOf, worstOf}
 use Rattle.global.specs.declared.responses.Job.{Job}
 use Rattle.global.specs.declared.responses.Worst.{Worst}
 use Rattle.global.proofs.ActiveLaws.{budget-at-most}
 use Rattle.global.proofs.BudgetEndLaws.{budget-end-next, budget-end-within, last-leaves, released-before-end}
-use Rattle.global.proofs.JobEndLaws.{job-end-within, job-end-plain, job-end-before-next, released-before-job-end}
+use Rattle.global.proofs.JobEndLaws.{job-end-within, job-end-plain, job-end-unasked, job-end-before-next, released-before-job-end}
 use Rattle.global.proofs.ResponseLaws.{counted-response, uncounted-response, response-without, response-with}
 use Rattle.global.proofs.JobsLaws.{some-jobs}
 use Rattle.global.proofs.BestLaws.{worst-first, worst-step, worst-stays}
@@ -99,9 +102,9 @@ module _ (v : View) (sv : Sound-view v) {k : ℕ} (ct : Counted v k) where
             budget-at-most v,
           )
 
-  -- Where no higher subsystem comes between, it ends within X of its budget's end.
-  pub response-plain : Plain (v .holdings) (v .ceilings) → jobResponse v k + k * v .period ≤ budgetEnd v k + overrun v
-  response-plain plain = ⊎-elim without with-some (le-or-lt (overrun v) 0)
+  -- Where each job end is within X(s, l) of the budget's end, the job ends within X of it.
+  response-by : ((l : ℕ) → l < resources v → 0 < held v l → jobEnd v k l ≤ budgetEnd v k + held v l) → jobResponse v k + k * v .period ≤ budgetEnd v k + overrun v
+  response-by ends = ⊎-elim without with-some (le-or-lt (overrun v) 0)
     where
       without : overrun v ≤ 0 → jobResponse v k + k * v .period ≤ budgetEnd v k + overrun v
       without h = omega (arith, response-without v k (omega arith), released-before-end v sv ct)
@@ -109,13 +112,10 @@ module _ (v : View) (sv : Sound-view v) {k : ℕ} (ct : Counted v k) where
       held-at-most : (l : ℕ) → l < resources v → held v l ≤ overrun v
       held-at-most l within = unfold overrun in below-largest (held v) (resources v) l within
 
-      highest : (l : ℕ) → l < resources v → 0 < held v l → ceiling v l ≡ 0
-      highest l within u = unfold held ceiling in plain l within u
-
       each : (l : ℕ) → l < resources v → responseWith v k l ≤ budgetEnd v k + overrun v - k * v .period
       each l within =
           ⊎-elim (λ (u : held v l ≤ 0). omega (arith, uncounted-response v k l u))
-          (λ (u : 0 < held v l). omega (arith, counted-response v k l u, job-end-plain v sv ct l within u (highest l within u), held-at-most l within))
+          (λ (u : 0 < held v l). omega (arith, counted-response v k l u, ends l within u, held-at-most l within))
           (le-or-lt (held v l) 0)
 
       with-some : 0 < overrun v → jobResponse v k + k * v .period ≤ budgetEnd v k + overrun v
@@ -126,6 +126,19 @@ module _ (v : View) (sv : Sound-view v) {k : ℕ} (ct : Counted v k) where
             largest-at-most (responseWith v k) (resources v) (budgetEnd v k + overrun v - k * v .period) each,
             released-before-end v sv ct,
           )
+
+  -- So it is where no higher subsystem comes between, and where none has a period that begins before.
+  pub response-plain : Plain (v .holdings) (v .ceilings) → jobResponse v k + k * v .period ≤ budgetEnd v k + overrun v
+  response-plain plain = response-by (λ l within u. omega (arith, job-end-plain v sv ct l within u (highest l within u)))
+    where
+      highest : (l : ℕ) → l < resources v → 0 < held v l → ceiling v l ≡ 0
+      highest l within u = unfold held ceiling in plain l within u
+
+  pub response-unasked : ((t : ℕ) → t < v .place → budgetEnd v k + overrun v ≤ up (budgetEnd v k) (getD (v .periods) t 0) * getD (v .periods) t 0) → jobResponse v k + k * v .period ≤ budgetEnd v k + overrun v
+  response-unasked quiet = response-by (λ l within u. job-end-unasked v sv ct l within u (λ t w. omega (arith, quiet t w, held-at-most l within)))
+    where
+      held-at-most : (l : ℕ) → l < resources v → held v l ≤ overrun v
+      held-at-most l within = unfold overrun in below-largest (held v) (resources v) l within
 
 ------------------------------------------------------------------------
 -- The worst of the jobs so far; before the first there is none, and 0 stands for its response
@@ -163,13 +176,25 @@ module _ (v : View) where
   worst-of-all n m w e h = h .1 (omega arith) ∙ ap (worstOf v) e
 
 -- A job ends at the latest when the code says so.
-module _ (v : View) (sv : Sound-view v) (k : ℕ) (ct : Counted v k) (after : Counted v (k + 1)) {end next c : ℕ} where
-  pub latest-holds :
-      end ≡ budgetEnd v k → next ≡ budgetEnd v (k + 1) → c ≡ cost v → (plain : Bool) → (plain ≡ true → Plain (v .holdings) (v .ceilings)) → {latest : ℕ} →
-      latest ≡ cond plain (end + (c - v .budget)) (next - v .budget) → jobResponse v k + k * v .period ≤ latest
-  unfolding cost
-  latest-holds e f g true h l = omega (arith, e, g, l, response-plain v sv ct (h refl))
-  latest-holds e f g false h l = omega (arith, f, l, response-before-next v sv ct after)
+module _ (v : View) (sv : Sound-view v) (k : ℕ) (ct : Counted v k) (after : Counted v (k + 1)) {end next c : ℕ} {ends : List ℕ} (e : Ended v k end ends) (f : next ≡ budgetEnd v (k + 1)) (g : c ≡ cost v) where
+  module _ (plain : Bool) (h : plain ≡ true → Plain (v .holdings) (v .ceilings)) where
+    by-then : (plain ≡ true) ⊎ ((t : ℕ) → t < v .place → end + (c - v .budget) ≤ getD ends t 0) → jobResponse v k + k * v .period ≤ end + (c - v .budget)
+    unfolding cost
+    by-then (inl p) = omega (arith, e .is-end, g, response-plain v sv ct (h p))
+    by-then (inr q) =
+        omega (
+          arith,
+          e .is-end,
+          g,
+          response-unasked v sv ct
+              (λ t u. rw (← (e .is-end)) (omega (arith, q t u, e .ends-at t u, g))),
+        )
+
+    pub latest-holds :
+        (known : Bool) → (known ≡ true → (plain ≡ true) ⊎ ((t : ℕ) → t < v .place → end + (c - v .budget) ≤ getD ends t 0)) → {latest : ℕ} →
+        latest ≡ cond known (end + (c - v .budget)) (next - v .budget) → jobResponse v k + k * v .period ≤ latest
+    latest-holds true q l = omega (arith, l, by-then (q refl))
+    latest-holds false q l = omega (arith, f, l, response-before-next v sv ct after)
 
 -- Where that leaves no room, the job is passed over: as the code tests it. It is never the first.
 pub passed-over :

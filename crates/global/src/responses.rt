@@ -8,7 +8,8 @@ use numbers::wide;
 use table::Table;
 ghost use mathlib.Core.Path.{_≡_};
 ghost use mathlib.Core.Bool.{true, cond};
-ghost use Prim.Native.Nat.{_+_, _-_, _*_, _^_, _≤_, _<_};
+ghost use mathlib.Core.Logic.{_⊎_};
+ghost use Prim.Native.Nat.{ℕ, _+_, _-_, _*_, _^_, _≤_, _<_};
 ghost use lib.Dec.{ltb};
 ghost use lib.ListN.{length, getD};
 ghost use Rattle.least.specs.Demand.{total};
@@ -188,17 +189,32 @@ fn is_plain(holdings: &[u32], ceilings: &[usize], n: u32) -> bool
     true
 }
 
-// When a job ends at the latest whose budget ends at `end` and the next one's at `next`: X later where no higher subsystem comes
-// between, else Q ticks before `next`.
-fn latest_end(own: Own, plain: bool, cost: u32, end: u32, next: u32) -> u32
-    requires { ⌜ (own .budget ≤ next) × (own .budget ≤ cost) × (end + cost < 2 ^ 32) ⌝ }
-    ensures { λ r. ⌜ r ≡ cond plain (end + (cost - own .budget)) (next - own .budget) ⌝ }
+// Whether a job surely ends within `x` ticks, its budget and the longest that it holds a resource: no higher subsystem comes between,
+// or none of them has a period that begins before, `ends` holding where those end that have begun.
+fn ends_by(plain: bool, ends: &[u32; Table::MOST], n: usize, x: u32) -> bool
+    requires { ⌜ (n ≤ most) × (n ≤ length (now ends)) ⌝ }
+    ensures { λ r. ⌜ (r ≡ true → (plain ≡ true) ⊎ ((t : ℕ) → t < n → x ≤ getD (now (ends .entry)) t 0)) ⌝ }
 {
     if plain {
-        end + (cost - own.budget)
-    } else {
-        next - own.budget
+        return true;
     }
+    let mut t: usize = 0;
+    while t < n {
+        if ends[t] < x {
+            return false;
+        }
+        t += 1;
+    }
+    true
+}
+
+// When a job ends at the latest whose budget ends at `end` and the next one's at `next`: by `sure` where that is known, else Q ticks before
+// `next`.
+fn latest_end(own: Own, known: bool, sure: u32, next: u32) -> u32
+    requires { ⌜ own .budget ≤ next ⌝ }
+    ensures { λ r. ⌜ r ≡ cond known sure (next - own .budget) ⌝ }
+{
+    if known { sure } else { next - own.budget }
 }
 
 // Whether job k, which ends at `latest` or earlier, may respond later than the worst so far.
@@ -328,7 +344,9 @@ pub(crate) fn largest_response(
             end,
             &mut reached,
         );
-        let latest = latest_end(own, plain, cost, end, next);
+        let sure = end + (cost - own.budget);
+        let known = ends_by(plain, &before, s, sure);
+        let latest = latest_end(own, known, sure, next);
         if may_be_worse(own, worst, k, latest) {
             let job = job_response(
                 periods,
