@@ -306,11 +306,11 @@ pub(crate) fn largest_response(
     n: u32,
     active: u32,
     first: u32,
-    ends: [u32; Table::MOST],
+    firsts: [u32; Table::MOST],
 ) -> Worst
     requires { ⌜ Sound-view (seenBy (now periods) (now costs) (now holdings) (now ceilings) own) ⌝ }
     requires { ⌜ Jobs (seenBy (now periods) (now costs) (now holdings) (now ceilings) own) active n ⌝ }
-    requires { ⌜ First-end (seenBy (now periods) (now costs) (now holdings) (now ceilings) own) ends first ⌝ }
+    requires { ⌜ First-end (seenBy (now periods) (now costs) (now holdings) (now ceilings) own) firsts first ⌝ }
     requires { ⌜ Frees (now periods) (now costs) (now frees) (own .place + 1) ⌝ }
     ensures { λ r. ⌜ r ≡ worstOf (seenBy (now (periods .entry)) (now (costs .entry)) (now (holdings .entry)) (now (ceilings .entry)) own) n ⌝ }
 {
@@ -321,7 +321,7 @@ pub(crate) fn largest_response(
         job: 0,
         resource: 0,
     };
-    let mut reached = ends;
+    let mut ends = firsts;
     let mut end = first;
     let mut k: u32 = 0;
     let free = own.period - cost;
@@ -331,7 +331,7 @@ pub(crate) fn largest_response(
     let spare = spare_for_jobs(periods, costs, own, n);
     let mut until = last;
     while k < until {
-        let before = reached;
+        let then = ends;
         let next = next_end(
             periods,
             costs,
@@ -342,23 +342,13 @@ pub(crate) fn largest_response(
             k,
             spare,
             end,
-            &mut reached,
+            &mut ends,
         );
         let sure = end + (cost - own.budget);
-        let known = ends_by(plain, &before, s, sure);
+        let known = ends_by(plain, &then, s, sure);
         let latest = latest_end(own, known, sure, next);
         if may_be_worse(own, worst, k, latest) {
-            let job = job_response(
-                periods,
-                costs,
-                frees,
-                holdings,
-                ceilings,
-                own,
-                k,
-                end,
-                before,
-            );
+            let job = job_response(periods, costs, frees, holdings, ceilings, own, k, end, then);
             worst = worse(worst, job, k);
             until = settled_from(worst, room, free, last);
         }
@@ -368,16 +358,6 @@ pub(crate) fn largest_response(
     if until < last {
         return worst;
     }
-    let job = job_response(
-        periods,
-        costs,
-        frees,
-        holdings,
-        ceilings,
-        own,
-        k,
-        end,
-        reached,
-    );
+    let job = job_response(periods, costs, frees, holdings, ceilings, own, k, end, ends);
     worse(worst, job, k)
 }
