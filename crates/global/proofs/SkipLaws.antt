@@ -6,19 +6,19 @@ use native.Mathlib.Nat.{add-zero, add-assoc, add-mul, mul-add, suc-mul, mul-le-m
 use native.Mathlib.Omega.{arith}
 use native.Mathlib.Numerals.{add-one}
 use mathlib.Core.Path.{_≡_, refl, sym, ap, _∙_}
-use mathlib.Core.Bool.{Bool, true, false, cond}
+use mathlib.Core.Bool.{Bool, true, cond}
 use mathlib.Core.Logic.{_⊎_, inl, inr, ⊎-elim}
 use mathlib.Core.List.{List}
 use lib.ListN.{getD}
 use Rattle.least.specs.Up.{up}
-use borrow.Author.Tests.{lt-ltb, ltb-false}
+use borrow.Author.Tests.{lt-ltb}
 use lib.Dec.{ltb}
 use Rattle.lists.specs.Range.{largestTo}
 use Rattle.lists.proofs.Over.{le-or-lt, largestTo-zero, below-largest, largest-at-most, largest-reached}
 use Rattle.global.specs.View.{View, resources, held, ceiling, overrun, cost}
 use Rattle.global.specs.Ends.{budgetEnd, jobEnd}
 use Rattle.global.specs.Response.{responseWith, jobResponse, response}
-use Rattle.global.specs.Sound.{Sound-view, Counted, Jobs, Ended, Plain}
+use Rattle.global.specs.Sound.{Sound-view, Counted, Jobs, Ended, EndedBy, Plain}
 use Rattle.global.specs.Computed.{jobOf, worstOf}
 use Rattle.global.specs.declared.responses.Job.{Job}
 use Rattle.global.specs.declared.responses.Worst.{Worst}
@@ -175,7 +175,7 @@ module _ (v : View) where
   unfolding WorstTo
   worst-of-all n m w e h = h .1 (omega arith) ∙ ap (worstOf v) e
 
--- A job ends at the latest when the code says so.
+-- A job has ended by then where the code says so.
 module _ (v : View) (sv : Sound-view v) (k : ℕ) (ct : Counted v k) (after : Counted v (k + 1)) {end next c : ℕ} {ends : List ℕ} (e : Ended v k end ends) (f : next ≡ budgetEnd v (k + 1)) (g : c ≡ cost v) where
   module _ (plain : Bool) (h : plain ≡ true → Plain (v .holdings) (v .ceilings)) where
     by-then : (plain ≡ true) ⊎ ((t : ℕ) → t < v .place → end + (c - v .budget) ≤ getD ends t 0) → jobResponse v k + k * v .period ≤ end + (c - v .budget)
@@ -190,28 +190,23 @@ module _ (v : View) (sv : Sound-view v) (k : ℕ) (ct : Counted v k) (after : Co
               (λ t u. rw (← (e .is-end)) (omega (arith, q t u, e .ends-at t u, g))),
         )
 
-    pub latest-holds :
-        (known : Bool) → (known ≡ true → (plain ≡ true) ⊎ ((t : ℕ) → t < v .place → end + (c - v .budget) ≤ getD ends t 0)) → {latest : ℕ} →
-        latest ≡ cond known (end + (c - v .budget)) (next - v .budget) → jobResponse v k + k * v .period ≤ latest
-    latest-holds true q l = omega (arith, l, by-then (q refl))
-    latest-holds false q l = omega (arith, f, l, response-before-next v sv ct after)
+    pub ended-by : {by : ℕ} → EndedBy (v .place) (v .budget) plain (end + (c - v .budget)) next ends by → jobResponse v k + k * v .period ≤ by
+    ended-by (inl q) = omega (arith, by-then (q .0), q .1)
+    ended-by (inr q) = omega (arith, f, q, response-before-next v sv ct after)
 
--- Where that leaves no room, the job is passed over: as the code tests it. It is never the first.
-pub passed-over :
-    (v : View) → Sound-view v → (k : ℕ) → Counted v k → (w : Worst) (latest : ℕ) → jobResponse v k + k * v .period ≤ latest →
-    ltb (w .response + k * v .period) latest ≡ false → WorstTo v k w → WorstTo v (k + 1) w
+-- Where that is no later than the worst so far responds, the job is passed over. It is never the first.
+pub passed-over : (v : View) → Sound-view v → (k : ℕ) → Counted v k → (w : Worst) → jobResponse v k + k * v .period ≤ w .response + k * v .period → WorstTo v k w → WorstTo v (k + 1) w
 unfolding WorstTo response
-passed-over v sv k ct w latest ends f h =
-    let room : latest ≤ w .response + k * v .period = ltb-false _ _ f in
-    ⊎-elim (λ (z : k ≤ 0). absurd (first z room))
-    (λ (from : 0 < k). worst-to-passed v k from w h (omega arith))
+passed-over v sv k ct w ends h =
+    ⊎-elim (λ (z : k ≤ 0). absurd (first z))
+    (λ (from : 0 < k). worst-to-passed v k from w h (omega (arith, ends)))
     (le-or-lt k 0)
   where
-    first : k ≤ 0 → latest ≤ w .response + k * v .period → ⊥
-    first z room =
+    first : k ≤ 0 → ⊥
+    first z =
         let none : k ≡ 0 = omega arith in
         let zero-response : w .response ≡ 0 = h .0 ∙ ap (largestTo (jobResponse v)) none ∙ largestTo-zero (jobResponse v) in
-        omega (arith, response-above-zero v sv ct)
+        omega (arith, response-above-zero v sv ct, ends)
 
 ------------------------------------------------------------------------
 -- The jobs after which no later one can be worse: each leaves Q + X for every job behind it within the active period.

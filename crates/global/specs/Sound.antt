@@ -1,7 +1,9 @@
 -- What the rules leave of interfaces, and what follows for the view of one subsystem: the facts that steps 6 to 11 rest on.
 -- Assumes nothing.
-use Prim.Native.Nat.{ℕ, _+_, _^_, _≤_, _<_}
+use Prim.Native.Nat.{ℕ, _+_, _-_, _^_, _≤_, _<_}
 use mathlib.Core.Path.{_≡_}
+use mathlib.Core.Bool.{Bool, true}
+use mathlib.Core.Logic.{_⊎_}
 use mathlib.Core.List.{List}
 use mathlib.Core.Option.{none, some}
 use lib.ListN.{length, getD}
@@ -65,6 +67,12 @@ pub record Ended (v : View) (k end : ℕ) (ends : List ℕ) : Type 0 where
   pub is-end : end ≡ budgetEnd v k
   pub with-end : most ≤ length ends
   pub ends-at : EndsAt (v .periods) ends (v .place) end
+
+-- A job has ended by then: by `sure` already, because no higher subsystem comes between (`plain`) or none has a period that begins before
+-- that; or else because the next one's budget ends at `next`, and the job Q ticks before, or earlier.
+abbrev pub EndedBy : (place budget : ℕ) → Bool → (sure next : ℕ) → List ℕ → (by : ℕ) → Type 0
+EndedBy place budget plain sure next ends by =
+    (((plain ≡ true) ⊎ ((t : ℕ) → t < place → sure ≤ getD ends t 0)) × (sure ≤ by)) ⊎ (next - budget ≤ by)
 
 -- Every resource that is held has the highest ceiling: no higher subsystem comes between once the budget has ended.
 abbrev pub Plain : List ℕ → List ℕ → Type 0

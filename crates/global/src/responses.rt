@@ -7,8 +7,7 @@ use least::standing;
 use numbers::wide;
 use table::Table;
 ghost use mathlib.Core.Path.{_≡_};
-ghost use mathlib.Core.Bool.{true, cond};
-ghost use mathlib.Core.Logic.{_⊎_};
+ghost use mathlib.Core.Bool.{true, false, cond};
 ghost use Prim.Native.Nat.{ℕ, _+_, _-_, _*_, _^_, _≤_, _<_};
 ghost use lib.Dec.{ltb};
 ghost use lib.ListN.{length, getD};
@@ -20,7 +19,7 @@ ghost use Rattle.table.specs.Limits.{most};
 ghost use Rattle.global.specs.Response.{responseWith};
 ghost use Rattle.global.specs.Ends.{budgetEnd};
 ghost use Rattle.global.specs.Computed.{seenBy, Budget-over, bestOf, jobOf, worstOf};
-ghost use Rattle.global.specs.Sound.{Sound-view, Counted, Jobs, First-end, Ended, Plain};
+ghost use Rattle.global.specs.Sound.{Sound-view, Counted, Jobs, First-end, Ended, EndedBy, Plain};
 
 // What a subsystem knows of itself: s, P(s), Q(s) and B(s).
 pub struct Own {
@@ -189,15 +188,11 @@ fn is_plain(holdings: &[u32], ceilings: &[usize], n: u32) -> bool
     true
 }
 
-// Whether a job surely ends within `x` ticks, its budget and the longest that it holds a resource: no higher subsystem comes between,
-// or none of them has a period that begins before, `ends` holding where those end that have begun.
-fn ends_by(plain: bool, ends: &[u32; Table::MOST], n: usize, x: u32) -> bool
+// Whether none of the first n loads has a period that begins before x, `ends` holding where those end that have begun.
+fn none_begins(ends: &[u32; Table::MOST], n: usize, x: u32) -> bool
     requires { ⌜ (n ≤ most) × (n ≤ length (now ends)) ⌝ }
-    ensures { λ r. ⌜ (r ≡ true → (plain ≡ true) ⊎ ((t : ℕ) → t < n → x ≤ getD (now (ends .entry)) t 0)) ⌝ }
+    ensures { λ r. ⌜ (r ≡ true → (t : ℕ) → t < n → x ≤ getD (now (ends .entry)) t 0) ⌝ }
 {
-    if plain {
-        return true;
-    }
     let mut t: usize = 0;
     while t < n {
         if ends[t] < x {
@@ -208,21 +203,39 @@ fn ends_by(plain: bool, ends: &[u32; Table::MOST], n: usize, x: u32) -> bool
     true
 }
 
-// When a job ends at the latest whose budget ends at `end` and the next one's at `next`: by `sure` where that is known, else Q ticks before
-// `next`.
-fn latest_end(own: Own, known: bool, sure: u32, next: u32) -> u32
-    requires { ⌜ own .budget ≤ next ⌝ }
-    ensures { λ r. ⌜ r ≡ cond known sure (next - own .budget) ⌝ }
-{
-    if known { sure } else { next - own.budget }
-}
-
-// Whether job k, which ends at `latest` or earlier, may respond later than the worst so far.
-fn may_be_worse(own: Own, worst: Worst, k: u32, latest: u32) -> bool
+// Whether job k, where it ends at `latest`, responds later than the worst so far.
+fn is_worse_at(own: Own, worst: Worst, k: u32, latest: u32) -> bool
     requires { ⌜ k * own .period < 2 ^ 32 ⌝ }
     ensures { λ r. ⌜ r ≡ ltb (worst .response + k * own .period) latest ⌝ }
 {
     wide(worst.response) + wide(k * own.period) < wide(latest)
+}
+
+// Whether job k, whose budget ends at `end` and the next one's at `next`, may respond later than the worst so far. It ends within X of
+// `end` where no higher subsystem comes between or has a period that begins before; and always Q ticks before `next`, or earlier.
+fn may_be_worse(
+    own: Own,
+    worst: Worst,
+    plain: bool,
+    k: u32,
+    sure: u32,
+    next: u32,
+    ends: &[u32; Table::MOST],
+) -> bool
+    requires { ⌜ (k * own .period < 2 ^ 32) × (own .budget ≤ next) ⌝ }
+    requires { ⌜ (own .place ≤ most) × (own .place ≤ length (now ends)) ⌝ }
+    ensures { λ r. ⌜ (r ≡ false → EndedBy (own .place) (own .budget) plain sure next (now (ends .entry)) (worst .response + k * own .period)) ⌝ }
+{
+    if plain {
+        return is_worse_at(own, worst, k, sure);
+    }
+    if !is_worse_at(own, worst, k, next - own.budget) {
+        return false;
+    }
+    if is_worse_at(own, worst, k, sure) {
+        return true;
+    }
+    !none_begins(ends, own.place, sure)
 }
 
 // The first job, at most `last`, from which on none can respond later than the worst so far: each leaves Q + X for every job behind
@@ -345,9 +358,7 @@ pub(crate) fn largest_response(
             &mut ends,
         );
         let sure = end + (cost - own.budget);
-        let known = ends_by(plain, &then, s, sure);
-        let latest = latest_end(own, known, sure, next);
-        if may_be_worse(own, worst, k, latest) {
+        if may_be_worse(own, worst, plain, k, sure, next, &then) {
             let job = job_response(periods, costs, frees, holdings, ceilings, own, k, end, then);
             worst = worse(worst, job, k);
             until = settled_from(worst, room, free, last);

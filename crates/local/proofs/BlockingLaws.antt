@@ -1,20 +1,44 @@
 -- Laws of task blocking: which accesses count, and what each turn of the search for the longest settles, read off the
 -- block. Assumes nothing.
-use Prim.Native.Nat.{ℕ, _+_, _≤_, _<_, max}
-use mathlib.Core.Path.{_≡_, refl, sym}
+use Prim.Native.Nat.{ℕ, zero, suc, _+_, _≤_, _<_, max}
+use mathlib.Core.Path.{_≡_, refl, sym, ap, ap₂, _∙_}
 use mathlib.Core.Bool.{Bool, true, false, cond, _&&_}
 use mathlib.Core.List.{List}
+use native.Mathlib.Numerals.{add-one}
 use native.Mathlib.Omega.{arith}
 use borrow.Author.Tests.{lt-ltb, le-ltb, le-leb, lt-leb, ltb-false}
 use lib.Dec.{ltb, leb}
-use Rattle.lists.specs.Range.{largestTo}
+use lib.ListN.{getD, set, replicate, getD-replicate}
+use lib.Seq.{set-getD}
+use Rattle.lists.specs.Range.{largestTo, padded}
 use Rattle.lists.proofs.Over.{largestTo-suc, largest-at-most}
+use Rattle.lists.proofs.UpTo.{getD-padded, padded-none, padded-set}
+use Rattle.table.specs.Limits.{most}
 use Rattle.table.specs.Meaning.{SubsystemM}
 use Rattle.table.specs.Parts.{taskCount, taskOf, accessOf}
 use Rattle.table.specs.Grid.{countIn, accessIn, subsystemIn}
 use Rattle.table.proofs.GridLaws.{count-of-block, access-of-block}
 use Rattle.rules.specs.Holding.{uses, innerCeiling}
+use Rattle.rules.proofs.HoldingLaws.{ceiling-is-a-task}
 use Rattle.local.specs.Blocking.{canBlock, blockingAccess, resourceBlocking, taskBlocking}
+
+-- An array of nothing but padding.
+all-padding : (f : ℕ → ℕ) (d size n : ℕ) → n ≤ size → ((k : ℕ) → k < n → f k ≡ d) → replicate size d ≡ padded f d size n
+all-padding f d size zero u h = sym (padded-none f d size)
+all-padding f d size (suc n) u h =
+    let rest : replicate size d ≡ padded f d size n = all-padding f d size n (omega arith) (λ k q. h k (omega arith)) in
+    rw (← add-one)
+    (sym (set-getD (replicate size d) n d) ∙ ap (set (replicate size d) n) (getD-replicate size n d d (omega arith)) ∙
+    ap₂ (λ (xs : List ℕ) (x : ℕ). set xs n x) rest (sym (h n (omega arith))) ∙
+    padded-set f d size n (omega arith))
+
+-- The ceilings of one task alone.
+pub ceilings-of-one :
+    (block : List (List ℕ)) (m n : ℕ) → n ≡ countIn block → n ≡ 1 → m ≤ most →
+    replicate most 0 ≡ padded (innerCeiling (subsystemIn m block)) 0 most m
+ceilings-of-one block m n e one few =
+    all-padding (innerCeiling (subsystemIn m block)) 0 most m few
+    (λ l k. omega (arith, ceiling-is-a-task block l m k (omega arith)))
 
 -- What can hold up task i is neither i itself nor above it, nor with a resource whose inner ceiling is below i.
 blocking-by-one-above : (u : SubsystemM) (i l j : ℕ) → j ≤ i → blockingAccess u i l j ≡ 0
@@ -81,3 +105,7 @@ task-blocking-turn u i l longest x e f = rw (largestTo-suc (resourceBlocking u i
 pub task-blocking-is : (m l : ℕ) (u : SubsystemM) (i : ℕ) → l ≡ m → largestTo (resourceBlocking u i) l ≡ taskBlocking m u i
 unfolding taskBlocking
 task-blocking-is m l u i e = rw e
+
+-- The ceiling that stands at a resource's place.
+pub ceiling-read : (u : SubsystemM) (m l : ℕ) (ceilings : List ℕ) → ceilings ≡ padded (innerCeiling u) 0 most m → l < m → getD ceilings l 0 ≡ innerCeiling u l
+ceiling-read u m l ceilings e h = rw e (getD-padded (innerCeiling u) 0 0 most m l h)

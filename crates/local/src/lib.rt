@@ -26,20 +26,21 @@ pub struct Share {
     pub end: u32,
 }
 
-// Whether task i passes, from the numbers of the tasks above it.
+// Whether task i passes, from the ceilings and the numbers of the tasks above it.
 fn task_passes(
     block: &[[u32; LINE]; BLOCK],
     m: usize,
     end: u32,
     i: usize,
+    ceilings: &[usize; Table::MOST],
     separations: &[u32; Table::MOST],
     works: &[u32; Table::MOST],
 ) -> bool
     requires { ⌜ Ready (now block) m end ⌝ }
-    requires { ⌜ (i < countIn (now block)) × TakenOut (now block) (now separations) (now works) i ⌝ }
+    requires { ⌜ (i < countIn (now block)) × TakenOut (now block) m (now ceilings) (now separations) (now works) i ⌝ }
     ensures { λ r. ⌜ r ≡ taskPasses m (subsystemIn m (now (block .entry))) end i ⌝ }
 {
-    let blocked = blocking::task_blocking(block, m, i);
+    let blocked = blocking::task_blocking(block, m, ceilings, i);
     let constant = blocked + wide(work(block, i));
     let share = Share {
         period: period(block),
@@ -55,12 +56,13 @@ pub fn first_failing_task(block: &[[u32; LINE]; BLOCK], m: usize, end: u32) -> u
     requires { ⌜ Ready (now block) m end ⌝ }
     ensures { λ r. ⌜ r ≡ firstFailing m (subsystemIn m (now (block .entry))) end ⌝ }
 {
+    let ceilings = blocking::inner_ceilings(block, m);
     let n = count(block);
     let mut separations = [0u32; Table::MOST];
     let mut works = [0u32; Table::MOST];
     let mut i = 0;
     while i < n {
-        if !task_passes(block, m, end, i, &separations, &works) {
+        if !task_passes(block, m, end, i, &ceilings, &separations, &works) {
             return (i + 1) as u8;
         }
         separations[i] = separation(block, i);

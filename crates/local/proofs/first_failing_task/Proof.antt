@@ -13,17 +13,27 @@ use Rattle.local.proofs.first_failing_task.Statement.{statement}
 use Rattle.local.proofs.first_failing_task.Tie as tie
 use Rattle.local.proofs.first_failing_task.Reads as reads
 use Rattle.local.proofs.first_failing_task.Lts as lts
+use Rattle.local.proofs.blocking.inner_ceilings.Reads as inner-ceilings-reads
 use Rattle.local.proofs.task_passes.Reads as task-passes-reads
 use Rattle.table.proofs.grid.count.Reads as count-reads
 use Rattle.table.proofs.grid.separation.Reads as separation-reads
 use Rattle.table.proofs.grid.work.Reads as work-reads
 
 abbrev Inv-loop : tie.InvT-loop
-Inv-loop block m end n separations₀ works₀ i₀ separations works i =
-    (n ≡ countIn block) × (n ≤ most) × (i ≤ n) × TakenOut block separations works i × FailingFrom m block end i
+Inv-loop block m end ceilings n separations₀ works₀ i₀ separations works i =
+    (n ≡ countIn block) × (n ≤ most) × (i ≤ n) × TakenOut block m ceilings separations works i × FailingFrom m block end i
 
 abbrev μ-loop : tie.MeasureT-loop
-μ-loop block m end n separations₀ works₀ i₀ separations works i = n - i
+μ-loop block m end ceilings n separations₀ works₀ i₀ separations works i = n - i
+
+-- src/lib.rt:59:20
+inner-ceilings-requires : tie.Need-inner-ceilings-requires Inv-loop μ-loop
+inner-ceilings-requires c κs =
+    record {
+      some-task = some-task _ _ (c .pre .sound);
+      tasks-most = tasks-within _ _ (c .pre .sound);
+      resources-most = c .pre .resources-most;
+    }
 
 -- src/lib.rt:60:9
 count-requires : tie.Need-count-requires Inv-loop μ-loop
@@ -33,9 +43,10 @@ count-requires c κs = search needs
 loop-holds : tie.Need-loop-holds Inv-loop μ-loop
 loop-holds c = (
   search needs,
-  omega (arith, c .count .ensures, tasks-within _ _ (c .before .pre .sound)),
+  omega (arith, c .count .ensures, tasks-within _ _ (c .before .before .pre .sound)),
   search needs,
   record {
+    ceilings-are = c .before .inner-ceilings .ensures;
     separations-are = sym (padded-none _ 0 most);
     works-are = sym (padded-none _ 0 most);
   },
@@ -45,9 +56,9 @@ loop-holds c = (
 -- src/lib.rt:65:13
 task-passes-requires : tie.Need-task-passes-requires Inv-loop μ-loop
 task-passes-requires c κs =
-    let k = c .before .before .before in
-    let s = k .before .before in
-    (s .pre, (omega (arith, c .before .before .loop-test .taken, k .loop .inv .0), k .loop .inv .3))
+    let k = c .before .before .before .before in
+    let s = k .before .before .before in
+    (s .pre, (omega (arith, c .before .before .before .loop-test .taken, k .loop .inv .0), k .loop .inv .3))
 
 -- src/lib.rt:66:21
 add-result : tie.Need-add-result Inv-loop μ-loop
@@ -60,9 +71,9 @@ cast-result c = search needs
 -- src/lib.rt:66:13
 returns : tie.Need-returns Inv-loop μ-loop
 returns c =
-    let k = c .before .before .before .before .before in
-    let s = k .before .before in
-    let below = c .before .before .before .before .loop-test .taken in
+    let k = c .before .before .before .before .before .before in
+    let s = k .before .before .before in
+    let below = c .before .before .before .before .before .loop-test .taken in
     failing-here (s .args .m) (s .args .block .now) (s .args .end) (k .loop .i) (omega (arith, below, k .loop .inv .0)) _ (c .before .task-passes .ensures) (c .if1 .taken) (k .loop .inv .4)
 
 -- src/lib.rt:68:26
@@ -101,15 +112,16 @@ loop-less c = search needs
 loop-again : tie.Need-loop-again Inv-loop μ-loop
 loop-again c =
     let p = c .before .before .before in
-    let k = p .before .before .before .before in
-    let s = k .before .before in
+    let k = p .before .before .before .before .before in
+    let s = k .before .before .before in
     let b = s .args .block .now in
-    let below = p .before .before .before .loop-test .taken in
+    let below = p .before .before .before .before .loop-test .taken in
     let room : k .loop .i < most = omega (arith, below, k .loop .inv .1) in (
       k .loop .inv .0,
       k .loop .inv .1,
       omega (arith, below),
       record {
+        ceilings-are = k .loop .inv .3 .ceilings-are;
         separations-are = padded-turn (separationIn b) 0 most (k .loop .i) room (k .loop .separations) _ (k .loop .inv .3 .separations-are) (c .before .separation .ensures);
         works-are = padded-turn (workIn b) 0 most (k .loop .i) room (k .loop .works) _ (k .loop .inv .3 .works-are) (c .work .ensures);
       },
@@ -120,7 +132,7 @@ loop-again c =
 returns-2 : tie.Need-returns-2 Inv-loop μ-loop
 returns-2 c =
     let k = c .before in
-    let s = k .before .before in
+    let s = k .before .before .before in
     failing-over (s .args .m) (s .args .block .now) (s .args .end) (k .loop .i) (omega (arith, c .loop-test .left, k .loop .inv .0)) (k .loop .inv .4)
 
 pub first-failing-task-spec : {M : Type 1} → statement M
@@ -129,6 +141,7 @@ first-failing-task-spec =
     (tie.spec
     Inv-loop
     μ-loop
+    inner-ceilings-requires
     count-requires
     loop-holds
     task-passes-requires

@@ -17,14 +17,14 @@ use Rattle.table.proofs.grid.work.Reads as work-reads
 
 -- src/lib.rt:43:9
 task-blocking-requires : tie.Need-task-blocking-requires
-task-blocking-requires c κs = (
-  record {
-    some-task = some-task _ _ (c .pre .0 .sound);
-    tasks-most = tasks-within _ _ (c .pre .0 .sound);
-    resources-most = c .pre .0 .resources-most;
-  },
-  c .pre .1 .0,
-)
+task-blocking-requires c κs =
+    record {
+      some-task = some-task _ _ (c .pre .0 .sound);
+      tasks-most = tasks-within _ _ (c .pre .0 .sound);
+      resources-most = c .pre .0 .resources-most;
+      task = c .pre .1 .0;
+      are = c .pre .1 .1 .ceilings-are;
+    }
 
 -- src/lib.rt:44:35
 work-requires : tie.Need-work-requires
@@ -61,7 +61,7 @@ held-within-requires c κs =
     let s : tie.Start = t .before in
     let a = s .args in
     let ok : Within (a .m) (a .block .now) (s .pre .0 .sound) (a .i) = task-within _ _ (s .pre .0 .sound) _ (s .pre .1 .0) in (
-      tasks-are-loads (a .m) (a .block .now) (s .pre .0 .sound) (a .i) (s .pre .1 .0) _ _ (s .pre .1 .1),
+      tasks-are-loads (a .m) (a .block .now) (s .pre .0 .sound) (a .i) (s .pre .1 .0) _ _ _ (s .pre .1 .1),
       (
         record {
           budget-least = omega (arith, c .before .before .before .budget .ensures, some-budget _ _ (s .pre .0 .sound));
@@ -86,7 +86,7 @@ returns c =
     let t = w .before .before in
     let s : tie.Start = t .before in
     c .held-within .ensures ∙
-    passes-by-block (s .args .m) (s .args .block .now) (s .pre .0 .sound) (s .args .i) (s .pre .1 .0) _ _ (s .pre .1 .1) (s .args .end) _ _ _ (t .task-blocking .ensures .0) (w .wide .ensures .0 ∙ w .before .work .ensures) (d .deadline .ensures) _ _ (p .period .ensures) (b .budget .ensures)
+    passes-by-block (s .args .m) (s .args .block .now) (s .pre .0 .sound) (s .args .i) (s .pre .1 .0) _ _ _ (s .pre .1 .1) (s .args .end) _ _ _ (t .task-blocking .ensures .0) (w .wide .ensures .0 ∙ w .before .work .ensures) (d .deadline .ensures) _ _ (p .period .ensures) (b .budget .ensures)
 
 pub task-passes-spec : {M : Type 1} → statement M
 task-passes-spec =

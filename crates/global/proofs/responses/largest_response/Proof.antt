@@ -9,17 +9,15 @@ use Rattle.global.specs.Sound.{Ended}
 use Rattle.global.proofs.ActiveLaws.{active-within, budget-at-most}
 use Rattle.global.proofs.JobsLaws.{job-counted, some-jobs, release-fits, end-small, job-small, budget-by-its-end}
 use Rattle.global.proofs.WaitLaws.{first-is}
-use Rattle.global.proofs.SkipLaws.{WorstTo, worst-to-none, worst-to-judged, worst-of-all, latest-holds, passed-over, response-above-zero, room-there, settled-from}
+use Rattle.global.proofs.SkipLaws.{WorstTo, worst-to-none, worst-to-judged, worst-of-all, ended-by, passed-over, response-above-zero, room-there, settled-from}
 use borrow.Author.Needs.{needs}
 use native.Mathlib.Omega.{arith}
 use Rattle.global.proofs.responses.largest_response.Statement.{statement}
 use Rattle.global.proofs.responses.largest_response.Tie as tie
 use Rattle.global.proofs.responses.largest_response.Reads as reads
 use Rattle.global.proofs.responses.largest_response.Lts as lts
-use Rattle.global.proofs.responses.ends_by.Reads as ends-by-reads
 use Rattle.global.proofs.responses.is_plain.Reads as is-plain-reads
 use Rattle.global.proofs.responses.job_response.Reads as job-response-reads
-use Rattle.global.proofs.responses.latest_end.Reads as latest-end-reads
 use Rattle.global.proofs.responses.may_be_worse.Reads as may-be-worse-reads
 use Rattle.global.proofs.responses.next_end.Reads as next-end-reads
 use Rattle.global.proofs.responses.settled_from.Reads as settled-from-reads
@@ -102,30 +100,20 @@ add-sure c =
     let here = job-counted _ (s .pre .1 .0) (h .k) (omega (arith, h .inv .0)) in
     record { fits = omega (arith, h .inv .4 .is-end, end-small _ (s .pre .0) here, s .pre .0 .own-cost, s .pre .0 .fits, s .pre .0 .period-small) }
 
-ends-by-requires : tie.Need-ends-by-requires Inv-loop μ-loop
-ends-by-requires c κs =
-    let s = c .before .before .before .before .before .before .before .before .before .before .before .before .before .before .before in
-    (omega (arith, s .pre .0 .few), omega (arith, s .pre .0 .few, c .before .before .before .before .before .loop .inv .4 .with-end))
-
--- src/responses.rt:317:13
-latest-end-requires : tie.Need-latest-end-requires Inv-loop μ-loop
-latest-end-requires c κs =
-    let h = c .before .before .before .before .before .before .loop in
-    let s = c .before .before .before .before .before .before .before .before .before .before .before .before .before .before .before .before in
-    budget-by-its-end _ (s .pre .0) (job-counted _ (s .pre .1 .0) (h .k + 1) (omega (arith, c .before .before .before .before .before .loop-test .taken, h .inv .1))) (c .before .before .before .next-end .ensures .is-end)
-
 -- src/responses.rt:318:12
 may-be-worse-requires : tie.Need-may-be-worse-requires Inv-loop μ-loop
 may-be-worse-requires c κs =
-    let s = c .before .before .before .before .before .before .before .before .before .before .before .before .before .before .before .before .before in
-    let h = c .before .before .before .before .before .before .before .loop in
-    release-fits _ (s .pre .0) (job-counted _ (s .pre .1 .0) (h .k) (omega (arith, h .inv .0)))
+    let h = c .before .before .before .before .before .loop in
+    let s = c .before .before .before .before .before .before .before .before .before .before .before .before .before .before .before in
+    let here = job-counted _ (s .pre .1 .0) (h .k) (omega (arith, h .inv .0)) in
+    let next = job-counted _ (s .pre .1 .0) (h .k + 1) (omega (arith, c .before .before .before .before .loop-test .taken, h .inv .1)) in
+    ((release-fits _ (s .pre .0) here, budget-by-its-end _ (s .pre .0) next (c .before .before .next-end .ensures .is-end)), (omega (arith, s .pre .0 .few), omega (arith, s .pre .0 .few, h .inv .4 .with-end)))
 
 -- src/responses.rt:319:17
 job-response-requires : tie.Need-job-response-requires Inv-loop μ-loop
 job-response-requires c κs =
-    let h = c .before .before .before .before .before .before .before .before .before .loop in
-    let s = c .before .before .before .before .before .before .before .before .before .before .before .before .before .before .before .before .before .before .before in
+    let h = c .before .before .before .before .before .before .before .loop in
+    let s = c .before .before .before .before .before .before .before .before .before .before .before .before .before .before .before .before .before in
     (s .pre .0, (job-counted _ (s .pre .1 .0) (h .k) (omega (arith, h .inv .0)), (h .inv .4 .is-end, ((h .inv .4 .ends-at, h .inv .4 .with-end), s .pre .1 .1 .1))))
 
 -- src/responses.rt:320:13
@@ -139,8 +127,8 @@ settled-from-requires c κs = search needs
 -- src/responses.rt:324:9
 add-k : tie.Need-add-k Inv-loop μ-loop
 add-k c =
-    let h = c .before .before .before .before .before .before .before .before .before .loop in
-    let s = c .before .before .before .before .before .before .before .before .before .before .before .before .before .before .before .before .before .before .before in
+    let h = c .before .before .before .before .before .before .before .loop in
+    let s = c .before .before .before .before .before .before .before .before .before .before .before .before .before .before .before .before .before in
     record { fits = omega (arith, job-small _ (s .pre .0) (job-counted _ (s .pre .1 .0) (h .k) (omega (arith, h .inv .0)))) }
 
 -- src/responses.rt:312:5
@@ -150,18 +138,17 @@ loop-less c = search needs
 -- src/responses.rt:312:5
 loop-again : tie.Need-loop-again Inv-loop μ-loop
 loop-again c =
-    let w = c .before .before .before .before .before .before in
-    let h = c .before .before .before .before .before .before .before .before .before .loop in
-    let s = c .before .before .before .before .before .before .before .before .before .before .before .before .before .before .before .before .before .before .before in
+    let w = c .before .before .before .before in
+    let h = c .before .before .before .before .before .before .before .loop in
+    let s = c .before .before .before .before .before .before .before .before .before .before .before .before .before .before .before .before .before in
     let here = job-counted _ (s .pre .1 .0) (h .k) (omega (arith, h .inv .0)) in
-    let after = job-counted _ (s .pre .1 .0) (h .k + 1) (omega (arith, c .before .before .before .before .before .before .before .before .loop-test .taken, h .inv .1)) in
-    let first = job-counted _ (s .pre .1 .0) 0 (some-jobs _ (s .pre .0) (s .pre .1 .0)) in
-    let at-latest = latest-holds _ (s .pre .0) (h .k) here after (h .inv .4) (w .next-end .ensures .is-end) (s .pre .0 .own-cost) _ (c .before .before .before .before .before .before .before .before .before .before .before .is-plain .ensures) _ (c .before .before .before .ends-by .ensures) (c .before .before .latest-end .ensures) in (
-      omega (arith, c .before .before .before .before .before .before .before .before .loop-test .taken, h .inv .1),
+    let after = job-counted _ (s .pre .1 .0) (h .k + 1) (omega (arith, c .before .before .before .before .before .before .loop-test .taken, h .inv .1)) in
+    let first = job-counted _ (s .pre .1 .0) 0 (some-jobs _ (s .pre .0) (s .pre .1 .0)) in (
+      omega (arith, c .before .before .before .before .before .before .loop-test .taken, h .inv .1),
       ⊎-elim (λ j. rw (j .5) (omega (arith, j .3 .ensures .0, some-jobs _ (s .pre .0) (s .pre .1 .0)))) (λ j. rw (j .2) (h .inv .1)) (c .if1 .came),
       ⊎-elim (λ j. rw (j .4, j .5) (λ u. omega (arith, j .3 .ensures .1 (omega (arith, u))))) (λ j. rw (j .1, j .2) (h .inv .2)) (c .if1 .came),
       ⊎-elim (λ j. rw (j .4) (worst-to-judged _ (h .k) (response-above-zero _ (s .pre .0) first) (h .worst) (h .inv .3) (j .1 .ensures) (j .2 .ensures)))
-          (λ j. rw (j .1) (passed-over _ (s .pre .0) (h .k) here (h .worst) _ at-latest (sym (c .before .may-be-worse .ensures) ∙ j .0 .left) (h .inv .3)))
+          (λ j. rw (j .1) (passed-over _ (s .pre .0) (h .k) here (h .worst) (ended-by _ (s .pre .0) (h .k) here after (h .inv .4) (w .next-end .ensures .is-end) (s .pre .0 .own-cost) _ (c .before .before .before .before .before .before .before .before .before .is-plain .ensures) (c .before .may-be-worse .ensures (j .0 .left))) (h .inv .3)))
           (c .if1 .came),
       w .next-end .ensures,
     )
@@ -211,8 +198,6 @@ largest-response-spec =
     next-end-requires
     sub-sure
     add-sure
-    ends-by-requires
-    latest-end-requires
     may-be-worse-requires
     job-response-requires
     worse-requires

@@ -1,39 +1,63 @@
--- `global::responses::may_be_worse` compares in wide numbers, where nothing overflows. Assumes nothing.
+-- `global::responses::may_be_worse` meets its contract: each test that rules the job out says by when it has ended. Assumes nothing.
 use native.Mathlib.Omega.{arith}
-use Prim.Native.Nat.{_+_}
-use mathlib.Core.Path.{ap₂}
-use lib.Dec.{ltb}
+use mathlib.Core.Path.{sym, subst, _∙_}
+use mathlib.Core.Logic.{inl, inr}
+use borrow.Author.Tests.{ltb-false, not-true, not-false}
+use lib.Dec.{T}
 use borrow.Author.Needs.{needs}
 use Rattle.global.proofs.responses.may_be_worse.Statement.{statement}
 use Rattle.global.proofs.responses.may_be_worse.Tie as tie
 use Rattle.global.proofs.responses.may_be_worse.Reads as reads
 use Rattle.global.proofs.responses.may_be_worse.Lts as lts
-use Rattle.numbers.proofs.wide.Reads as wide-reads
+use Rattle.global.proofs.responses.is_worse_at.Reads as is-worse-at-reads
+use Rattle.global.proofs.responses.none_begins.Reads as none-begins-reads
 
--- src/responses.rt:195:5
-wide-requires : tie.Need-wide-requires
-wide-requires c κs = search needs
+-- src/responses.rt:230:9
+is-worse-at-requires : tie.Need-is-worse-at-requires
+is-worse-at-requires c κs = search needs
 
--- src/responses.rt:195:33
-mul-wide : tie.Need-mul-wide
-mul-wide c = search needs
-
--- src/responses.rt:195:28
-wide-requires-2 : tie.Need-wide-requires-2
-wide-requires-2 c κs = search needs
-
--- src/responses.rt:195:5
-add-result : tie.Need-add-result
-add-result c = search needs
-
--- src/responses.rt:195:51
-wide-requires-3 : tie.Need-wide-requires-3
-wide-requires-3 c κs = search needs
-
--- src/responses.rt:191:1
+-- src/responses.rt:230:9
 returns : tie.Need-returns
-returns c = ap₂ ltb (ap₂ _+_ (c .before .before .before .wide .ensures .0) (c .before .wide2 .ensures .0)) (c .wide3 .ensures .0)
+returns c = λ f. inl (inl (c .before .if1 .taken), ltb-false _ _ (sym (c .is-worse-at .ensures) ∙ f))
+
+-- src/responses.rt:232:36
+sub-is-worse-at : tie.Need-sub-is-worse-at
+sub-is-worse-at c = search needs
+
+-- src/responses.rt:232:9
+is-worse-at-requires-2 : tie.Need-is-worse-at-requires-2
+is-worse-at-requires-2 c κs = search needs
+
+-- src/responses.rt:233:9
+returns-2 : tie.Need-returns-2
+returns-2 c = λ _. inr (ltb-false _ _ (sym (c .before .is-worse-at2 .ensures) ∙ not-true _ (c .if2 .taken)))
+
+-- src/responses.rt:235:8
+is-worse-at-requires-3 : tie.Need-is-worse-at-requires-3
+is-worse-at-requires-3 c κs = search needs
+
+-- src/responses.rt:236:9
+returns-3 : tie.Need-returns-3
+returns-3 c = λ f. absurd (subst T f tt)
+
+-- src/responses.rt:238:6
+none-begins-requires : tie.Need-none-begins-requires
+none-begins-requires c κs = search needs
+
+-- src/responses.rt:216:1
+returns-4 : tie.Need-returns-4
+returns-4 c = λ f. inl (inr (c .none-begins .ensures (not-false _ f)), ltb-false _ _ (sym (c .before .before .is-worse-at3 .ensures) ∙ c .before .if3 .left))
 
 pub may-be-worse-spec : {M : Type 1} → statement M
 may-be-worse-spec =
-    tie.close (tie.spec wide-requires mul-wide wide-requires-2 add-result wide-requires-3 returns)
+    tie.close
+    (tie.spec
+    is-worse-at-requires
+    returns
+    sub-is-worse-at
+    is-worse-at-requires-2
+    returns-2
+    is-worse-at-requires-3
+    returns-3
+    none-begins-requires
+    returns-4)

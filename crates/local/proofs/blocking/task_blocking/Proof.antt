@@ -7,7 +7,7 @@ use Rattle.lists.specs.Range.{largestTo}
 use Rattle.lists.proofs.Over.{largestTo-zero}
 use Rattle.table.specs.Grid.{subsystemIn}
 use Rattle.local.specs.Blocking.{resourceBlocking}
-use Rattle.local.proofs.BlockingLaws.{task-blocking-turn, task-blocking-is}
+use Rattle.local.proofs.BlockingLaws.{ceiling-read, task-blocking-turn, task-blocking-is}
 use Rattle.local.proofs.blocking.task_blocking.Statement.{statement}
 use Rattle.local.proofs.blocking.task_blocking.Tie as tie
 use Rattle.local.proofs.blocking.task_blocking.Reads as reads
@@ -16,21 +16,32 @@ use Rattle.local.proofs.blocking.resource_blocking.Reads as resource-bl
 use Rattle.numbers.proofs.larger.Reads as larger-reads
 
 abbrev Inv-loop : tie.InvT-loop
-Inv-loop block m i longest₀ l₀ longest l = (l ≤ m) × (longest ≡ largestTo (resourceBlocking (subsystemIn m block) i) l) × (longest < 4294967296)
+Inv-loop block m ceilings i longest₀ l₀ longest l = (l ≤ m) × (longest ≡ largestTo (resourceBlocking (subsystemIn m block) i) l) × (longest < 4294967296)
 
 abbrev μ-loop : tie.MeasureT-loop
-μ-loop block m i longest₀ l₀ longest l = m - l
+μ-loop block m ceilings i longest₀ l₀ longest l = m - l
 
 -- src/blocking.rt:71:5
 loop-holds : tie.Need-loop-holds Inv-loop μ-loop
 loop-holds c = (search needs, sym (largestTo-zero _), search needs)
 
+-- src/blocking.rt:72:23
+mul-ceiling : tie.Need-mul-ceiling Inv-loop μ-loop
+mul-ceiling c = search needs
+
+-- src/blocking.rt:72:23
+element-copy-out-ceiling : tie.Need-element-copy-out-ceiling Inv-loop μ-loop
+element-copy-out-ceiling c = search needs
+
 -- src/blocking.rt:73:13
 resource-blocking-requires : tie.Need-resource-blocking-requires Inv-loop μ-loop
 resource-blocking-requires c κs =
-    let s = c .before .before in
-    let f = s .pre .0 in
-    (record { some-task = f .some-task; tasks-most = f .tasks-most; resources-most = f .resources-most; listed = c .loop-test .taken }, s .pre .1)
+    let k = c .before .before in
+    let s = k .before in
+    let below = c .before .loop-test .taken in (
+      record { some-task = s .pre .some-task; tasks-most = s .pre .tasks-most; resources-most = s .pre .resources-most; listed = below },
+      (ceiling-read _ _ _ _ (s .pre .are) below, s .pre .task),
+    )
 
 -- src/blocking.rt:74:9
 larger-requires : tie.Need-larger-requires Inv-loop μ-loop
@@ -47,7 +58,7 @@ loop-less c = search needs
 -- src/blocking.rt:71:5
 loop-again : tie.Need-loop-again Inv-loop μ-loop
 loop-again c =
-    let k = c .before .before .before in
+    let k = c .before .before .before .before in
     let s = k .before in
     let x = c .before .resource-blocking .ensures in
     (search needs, c .larger .ensures ∙ task-blocking-turn (subsystemIn (s .args .m) (s .args .block .now)) (s .args .i) (k .loop .l) (k .loop .longest) _ (k .loop .inv .1) (x .0), omega (arith, c .larger .ensures, k .loop .inv .2, x .1))
@@ -66,6 +77,8 @@ task-blocking-spec =
     Inv-loop
     μ-loop
     loop-holds
+    mul-ceiling
+    element-copy-out-ceiling
     resource-blocking-requires
     larger-requires
     add-l
