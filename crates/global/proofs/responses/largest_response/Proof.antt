@@ -1,7 +1,6 @@
 -- `global::responses::largest_response` meets its contract. The loop's invariant: the worst of the jobs passed so far, where this job's
 -- budget ends, and from which job on none can be worse. Assumes nothing.
 use Prim.Native.Nat.{_+_, _*_, _-_, _≤_, _<_}
-use mathlib.Core.Path.{sym, _∙_}
 use mathlib.Core.Logic.{⊎-elim}
 use Rattle.least.proofs.Demand.{loads-fewer}
 use Rattle.global.specs.Computed.{seenBy}
