@@ -80,6 +80,25 @@ def climbing_table():
     return [1, subsystems]
 
 
+def flowing_table():
+    """Jobs that each wait for many periods of every higher subsystem, often with a lower one that blocks for long."""
+    left, subsystems = 1.0, []
+    for _ in range(chance.randint(2, 5)):
+        period = chance.choice([10, 17, 30, 50, 71, 100, 150, 300, 999, chance.randint(5, 1000)])
+        budget = max(1, int(period * left * chance.choice([0.15, 0.25, 0.4, 0.5])))
+        if budget / period < left:
+            subsystems.append([period, budget, [[1, 1, 1, [0]]]])
+            left -= budget / period
+    budget = chance.choice([100, 300, 700, 1000, 2000])
+    period = min(1_000_000, int(budget / left * chance.choice([1.001, 1.003, 1.01, 1.03, 1.1])) + 1)
+    subsystems.append([period, budget, [[1, 1, 1, [0]]]])
+    if chance.random() < 0.7:
+        held = chance.choice([1, 100, 1000, 5000])
+        subsystems[0][2][0][3][0] = 1
+        subsystems.append([1_000_000, held, [[held, held, held, [held]]]])
+    return [1, subsystems]
+
+
 def near(value, steps):
     return max(1, min(1_000_000, value + chance.choice(steps)))
 
@@ -126,7 +145,7 @@ def changed(table):
 worst, tried, end = [], 0, time.time() + float(seconds)
 while time.time() < end:
     fresh = len(worst) < 8 or chance.random() < 0.12
-    table = chance.choice([some_table, climbing_table])() if fresh else changed(chance.choice(worst[:15])[1])
+    table = chance.choice([some_table, climbing_table, flowing_table])() if fresh else changed(chance.choice(worst[:15])[1])
     tried += 1
     if all(table != known for _, known in worst):
         worst.append((ratio(table), table))
