@@ -211,8 +211,9 @@ fn is_worse_at(own: Own, worst: Worst, k: u32, latest: u32) -> bool
     wide(worst.response) + wide(k * own.period) < wide(latest)
 }
 
-// Whether job k, whose budget ends at `end` and the next one's at `next`, may respond later than the worst so far. It ends within X of
-// `end` where no higher subsystem comes between or has a period that begins before; and always Q ticks before `next`, or earlier.
+// Whether job k may respond later than the worst so far. It ends by `sure`, X after its budget, where no higher subsystem comes between
+// (`plain`) or has a period that begins before; and always Q ticks before `next`, the end of the next one's budget, or earlier. The
+// cheapest test comes first.
 fn may_be_worse(
     own: Own,
     worst: Worst,
