@@ -23,6 +23,10 @@ padded-ext : (f g : ℕ → ℕ) (n : ℕ) → ((i : ℕ) → i < n → f i ≡ 
 unfolding padded
 padded-ext f g n e = ap (λ (xs : List ℕ). xs ++ replicate (most - n) 0) (upTo-ext f g n e)
 
+-- What stands in a slot of its used part.
+at-slot : (f : ℕ → ℕ) (n : ℕ) {xs : List ℕ} → xs ≡ padded f 0 most n → (t : ℕ) → t < n → getD xs t 0 ≡ f t
+at-slot f n q t u = ap (λ (ys : List ℕ). getD ys t 0) q ∙ getD-padded f 0 0 most n t u
+
 pub common-is : (n m : ℕ) (lines : List (List ℕ)) (p c f r : List ℕ) → p ≡ padded (periodAt lines) 0 most n → c ≡ padded (costOf (interfacesIn n m lines)) 0 most n → f ≡ padded (λ t. getD p t 0 - getD c t 0) 0 most n → r ≡ padded (ceilingIn lines n) 0 most m → _≡_ {A = Common} (record { periods = p; costs = c; frees = f; ceilings = r }) (commonOf (interfacesIn n m lines))
 unfolding commonOf interfacesIn freeOf
 common-is n m lines p c d r e f g h =
@@ -32,7 +36,7 @@ common-is n m lines p c d r e f g h =
     let f2 : c ≡ padded (costOf (interfacesIn n m lines)) 0 most (count (interfacesIn n m lines)) =
     f ∙ ap (padded (costOf (interfacesIn n m lines)) 0 most) same in
     let free-at : (s : ℕ) → s < n → getD p s 0 - getD c s 0 ≡ freeOf (interfacesIn n m lines) s =
-    λ s u. ap₂ _-_ (ap (λ (xs : List ℕ). getD xs s 0) e ∙ getD-padded (periodAt lines) 0 0 most n s u ∙ sym (period-of-slot n m lines s u)) (ap (λ (xs : List ℕ). getD xs s 0) f ∙ getD-padded (costOf (interfacesIn n m lines)) 0 0 most n s u) in
+    λ s u. ap₂ _-_ (at-slot (periodAt lines) n e s u ∙ sym (period-of-slot n m lines s u)) (at-slot (costOf (interfacesIn n m lines)) n f s u) in
     let g2 : d ≡ padded (freeOf (interfacesIn n m lines)) 0 most (count (interfacesIn n m lines)) =
     g ∙ padded-ext _ _ n free-at ∙ ap (padded (freeOf (interfacesIn n m lines)) 0 most) same in
     let h2 : r ≡ padded (outerCeiling (interfacesIn n m lines)) 0 most m =
@@ -46,12 +50,9 @@ pub frees-fit :
 frees-fit n m lines p c sound e f =
     let few = few-of n m lines sound in (
       (few, omega (arith, ap length e, length-padded (periodAt lines) 0 most n few), omega (arith, ap length f, length-padded (costOf (interfacesIn n m lines)) 0 most n few)),
-      λ t u. omega (arith, at-slot (periodAt lines) e t u ∙ sym (period-of-slot n m lines t u), at-slot (costOf (interfacesIn n m lines)) f t u, fits t u),
+      λ t u. omega (arith, at-slot (periodAt lines) n e t u ∙ sym (period-of-slot n m lines t u), at-slot (costOf (interfacesIn n m lines)) n f t u, fits t u),
     )
   where
-    at-slot : (g : ℕ → ℕ) {xs : List ℕ} → xs ≡ padded g 0 most n → (t : ℕ) → t < n → getD xs t 0 ≡ g t
-    at-slot g q t u = ap (λ (ys : List ℕ). getD ys t 0) q ∙ getD-padded g 0 0 most n t u
-
     fits : (t : ℕ) → t < n → costOf (interfacesIn n m lines) t ≤ periodOf (interfacesIn n m lines) t
     fits t u = unfold costOf in sound .fits t (rw (count-of n m lines) u)
 

@@ -5,9 +5,8 @@ use native.Mathlib.Nat.{mul-le-mul-right}
 use native.Mathlib.Omega.{arith}
 use mathlib.Core.Path.{_≡_, refl, sym, ap, _∙_}
 use mathlib.Core.Option.{some}
-use mathlib.Core.List.{List}
 use lib.ListN.{getD}
-use Rattle.lists.proofs.Over.{sumTo-zero, sumTo-mono}
+use Rattle.lists.proofs.Over.{sumTo-mono}
 use Rattle.least.specs.Up.{up}
 use Rattle.least.proofs.Up.{up-is-least}
 use Rattle.least.specs.Demand.{loadIn, demand, demandBetween, total}
@@ -37,11 +36,6 @@ open-in v l x = demand (v .periods) (v .costs) (ceiling v l) x
 
 abbrev shut-in : View → ℕ → ℕ → ℕ
 shut-in v l x = demandBetween (v .periods) (v .costs) (ceiling v l) (v .place) x
-
--- No loads ask for nothing.
-demand-of-none : (periods costs : List ℕ) (x : ℕ) → demand periods costs 0 x ≡ 0
-unfolding demand
-demand-of-none periods costs x = sumTo-zero (loadIn periods costs x)
 
 module _ (v : View) (k l : ℕ) where
   job-total : (x : ℕ) → jobTotal v k l x ≡ ahead v k + held v l + shut-in v l (budgetEnd v k) + open-in v l x
@@ -116,22 +110,11 @@ module _ (v : View) (sv : Sound-view v) {k : ℕ} (ct : Counted v k) (l : ℕ) (
   pub released-before-job-end : k * v .period < jobEnd v k l
   released-before-job-end = omega (arith, released-before-end v sv ct, job-end-from)
 
-  -- Where no higher subsystem comes between, it is X(s, l) after F(k).
-  pub job-end-plain : ceiling v l ≡ 0 → jobEnd v k l ≡ budgetEnd v k + held v l
-  job-end-plain e =
-      omega (arith, job-end-is-least .solution, job-total v k l (jobEnd v k l), constant-by-end, nothing-open (jobEnd v k l), nothing-open (budgetEnd v k), job-constant-is)
-    where
-      nothing-open : (x : ℕ) → open-in v l x ≡ 0
-      nothing-open x = rw e (demand-of-none (v .periods) (v .costs) x)
-
-      job-constant-is : jobConstant v k l ≡ ahead v k + held v l + shut-in v l (budgetEnd v k)
-      job-constant-is = unfold shutOut in refl
-
-  -- Where no higher subsystem has a period that begins before it, it is no later than that either.
-  pub job-end-unasked : ((t : ℕ) → t < v .place → budgetEnd v k + held v l ≤ up (budgetEnd v k) (getD (v .periods) t 0) * getD (v .periods) t 0) → jobEnd v k l ≤ budgetEnd v k + held v l
+  -- It is no later than X(s, l) after F(k) where none of the subsystems that may come between has a period that begins before.
+  pub job-end-unasked : ((t : ℕ) → t < ceiling v l → budgetEnd v k + held v l ≤ up (budgetEnd v k) (getD (v .periods) t 0) * getD (v .periods) t 0) → jobEnd v k l ≤ budgetEnd v k + held v l
   job-end-unasked quiet =
       stands-below (jobTotal v k l) (least-stands (jobTotal v k l) job-end-is-least) (omega (arith, budget-end-is-least v sv ct .from))
-      (omega (arith, job-total v k l (budgetEnd v k + held v l), constant-by-end, job-constant-is, no-more))
+      (omega (arith, job-total v k l (budgetEnd v k + held v l), constant-by-end, constant-is, no-more))
     where
       no-more : open-in v l (budgetEnd v k + held v l) ≤ open-in v l (budgetEnd v k)
       no-more =
@@ -139,10 +122,10 @@ module _ (v : View) (sv : Sound-view v) {k : ℕ} (ct : Counted v k) (l : ℕ) (
           sumTo-mono (loadIn (v .periods) (v .costs) (budgetEnd v k + held v l)) (loadIn (v .periods) (v .costs) (budgetEnd v k)) (ceiling v l)
           (λ t u.
           mul-le-mul-right (getD (v .costs) t 0)
-          (up-is-least (budgetEnd v k + held v l) (getD (v .periods) t 0) (up (budgetEnd v k) (getD (v .periods) t 0)) (open-loads .period-pos t u) (quiet t (omega (arith, reaches)))))
+          (up-is-least (budgetEnd v k + held v l) (getD (v .periods) t 0) (up (budgetEnd v k) (getD (v .periods) t 0)) (open-loads .period-pos t u) (quiet t u)))
 
-      job-constant-is : jobConstant v k l ≡ ahead v k + held v l + shut-in v l (budgetEnd v k)
-      job-constant-is = unfold shutOut in refl
+      constant-is : jobConstant v k l ≡ ahead v k + held v l + shut-in v l (budgetEnd v k)
+      constant-is = unfold shutOut in refl
 
   -- It is at least Q before the end of the next job's budget: by then all that the job may wait for has been asked for.
   pub job-end-before-next : Counted v (k + 1) → jobEnd v k l + v .budget ≤ budgetEnd v (k + 1)

@@ -22,9 +22,9 @@ use Rattle.global.specs.Sound.{Sound-view, Counted, Jobs, Ended, EndedBy
 use Rattle.global.specs.Computed.{jobOf, worstOf}
 use Rattle.global.specs.declared.responses.Job.{Job}
 use Rattle.global.specs.declared.responses.Worst.{Worst}
-use Rattle.global.proofs.ActiveLaws.{budget-at-most}
+use Rattle.global.proofs.ActiveLaws.{held-at-most, budget-at-most}
 use Rattle.global.proofs.BudgetEndLaws.{budget-end-next, budget-end-within, last-leaves, released-before-end}
-use Rattle.global.proofs.JobEndLaws.{job-end-within, job-end-plain, job-end-unasked, job-end-before-next, released-before-job-end}
+use Rattle.global.proofs.JobEndLaws.{job-end-within, job-end-unasked, job-end-before-next, released-before-job-end}
 use Rattle.global.proofs.ResponseLaws.{counted-response, uncounted-response, response-without, response-with}
 use Rattle.global.proofs.JobsLaws.{some-jobs}
 use Rattle.global.proofs.BestLaws.{worst-first, worst-step, worst-stays}
@@ -109,13 +109,10 @@ module _ (v : View) (sv : Sound-view v) {k : ℕ} (ct : Counted v k) where
       without : overrun v ≤ 0 → jobResponse v k + k * v .period ≤ budgetEnd v k + overrun v
       without h = omega (arith, response-without v k (omega arith), released-before-end v sv ct)
 
-      held-at-most : (l : ℕ) → l < resources v → held v l ≤ overrun v
-      held-at-most l within = unfold overrun in below-largest (held v) (resources v) l within
-
       each : (l : ℕ) → l < resources v → responseWith v k l ≤ budgetEnd v k + overrun v - k * v .period
       each l within =
           ⊎-elim (λ (u : held v l ≤ 0). omega (arith, uncounted-response v k l u))
-          (λ (u : 0 < held v l). omega (arith, counted-response v k l u, ends l within u, held-at-most l within))
+          (λ (u : 0 < held v l). omega (arith, counted-response v k l u, ends l within u, held-at-most v l within))
           (le-or-lt (held v l) 0)
 
       with-some : 0 < overrun v → jobResponse v k + k * v .period ≤ budgetEnd v k + overrun v
@@ -129,16 +126,17 @@ module _ (v : View) (sv : Sound-view v) {k : ℕ} (ct : Counted v k) where
 
   -- So it is where no higher subsystem comes between, and where none has a period that begins before.
   pub response-plain : Plain (v .holdings) (v .ceilings) → jobResponse v k + k * v .period ≤ budgetEnd v k + overrun v
-  response-plain plain = response-by (λ l within u. omega (arith, job-end-plain v sv ct l within u (highest l within u)))
+  response-plain plain = response-by (λ l within u. job-end-unasked v sv ct l within u (λ t w. absurd (omega (arith, w, highest l within u))))
     where
       highest : (l : ℕ) → l < resources v → 0 < held v l → ceiling v l ≡ 0
       highest l within u = unfold held ceiling in plain l within u
 
   pub response-unasked : ((t : ℕ) → t < v .place → budgetEnd v k + overrun v ≤ up (budgetEnd v k) (getD (v .periods) t 0) * getD (v .periods) t 0) → jobResponse v k + k * v .period ≤ budgetEnd v k + overrun v
-  response-unasked quiet = response-by (λ l within u. job-end-unasked v sv ct l within u (λ t w. omega (arith, quiet t w, held-at-most l within)))
-    where
-      held-at-most : (l : ℕ) → l < resources v → held v l ≤ overrun v
-      held-at-most l within = unfold overrun in below-largest (held v) (resources v) l within
+  response-unasked quiet =
+      response-by
+      (λ l within u.
+      job-end-unasked v sv ct l within u
+      (λ t w. omega (arith, quiet t (omega (arith, w, sv .ceiling-reaches l within u)), held-at-most v l within)))
 
 ------------------------------------------------------------------------
 -- The worst of the jobs so far; before the first there is none, and 0 stands for its response
