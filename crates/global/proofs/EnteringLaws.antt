@@ -8,39 +8,16 @@ use mathlib.Core.Bool.{Bool, true, false, cond, true≢false}
 use mathlib.Core.List.{List, [], _∷_, _++_, append-assoc}
 use mathlib.Core.Logic.{⊎-elim}
 use lib.Dec.{eqb}
-use lib.ListN.{getD, set, replicate, length-set}
-use lib.Seq.{ext-getD, getD-set-same, getD-set-other, set-append-left}
+use lib.ListN.{getD, set, replicate}
 use borrow.Author.Tests.{eq-eqb, ne-eqb, lt-ltb, le-ltb}
-use Rattle.lists.proofs.Over.{le-or-lt}
+use Rattle.lists.proofs.Over.{le-or-lt, same-or-not}
+use Rattle.lists.proofs.Put.{padded-put}
 use Rattle.lists.specs.Range.{upTo, padded}
-use Rattle.lists.proofs.UpTo.{length-upTo, getD-upTo, upTo-ext, getD-padded, padded-turn}
+use Rattle.lists.proofs.UpTo.{upTo-ext, padded-ext, getD-padded, padded-turn}
 use Rattle.global.specs.Leading.{beats, beatenBy, led}
-use Rattle.global.proofs.LeadingLaws.{same-or-not, leads-or-not, led-none, leads, led-beaten, beaten-or-not, leader-of}
+use Rattle.global.proofs.LeadingLaws.{leads-or-not, led-none, leads, led-beaten, beaten-or-not, leader-of}
 
 module _ (f g : ℕ → ℕ) (d most n : ℕ) where
-  -- A slot that changes among those that are filled.
-  padded-put : (j y : ℕ) → j < n → g j ≡ y → ((k : ℕ) → k < n → (k ≡ j → ⊥) → f k ≡ g k) → set (padded f d most n) j y ≡ padded g d most n
-  unfolding padded
-  padded-put j y u e h =
-      set-append-left (upTo f n) (replicate (most - n) d) j y (omega (arith, length-upTo f n)) ∙
-      ap (λ (xs : List ℕ). xs ++ replicate (most - n) d)
-      (ext-getD d (set (upTo f n) j y) (upTo g n)
-      (length-set (upTo f n) j y ∙ length-upTo f n ∙ sym (length-upTo g n))
-      (λ i q. slot i (omega (arith, q, length-set (upTo f n) j y, length-upTo f n))))
-    where
-      slot : (i : ℕ) → i < n → getD (set (upTo f n) j y) i d ≡ getD (upTo g n) i d
-      slot i q =
-          ⊎-elim
-          (λ (s : i ≡ j).
-          rw (s, getD-set-same (upTo f n) j y d (omega (arith, length-upTo f n)), getD-upTo g n j d u) (sym e))
-          (λ (s : i ≡ j → ⊥).
-          getD-set-other (upTo f n) j i y d s ∙ getD-upTo f n i d q ∙ h i q s ∙ sym (getD-upTo g n i d q))
-          (same-or-not i j)
-
-  padded-ext : ((k : ℕ) → k < n → f k ≡ g k) → padded f d most n ≡ padded g d most n
-  unfolding padded
-  padded-ext h = ap (λ (xs : List ℕ). xs ++ replicate (most - n) d) (upTo-ext f g n h)
-
   -- One more slot that is as the padding.
   padded-same : n < most → ((k : ℕ) → k < n → f k ≡ g k) → g n ≡ d → padded f d most n ≡ padded g d most (n + 1)
   unfolding padded upTo

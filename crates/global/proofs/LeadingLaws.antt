@@ -1,22 +1,17 @@
 -- Which resources lead, and that every resource has one that leads it. Assumes nothing.
 use Prim.Native.Nat.{ℕ, _≤_, _<_}
 use native.Mathlib.Omega.{arith}
-use native.Mathlib.Decide.{ℕ-discrete}
 use mathlib.Core.Path.{_≡_, refl, sym, ap, _∙_}
 use mathlib.Core.Bool.{Bool, true, false, cond, true≢false}
 use mathlib.Core.Option.{Option, none, some}
 use mathlib.Core.Logic.{_⊎_, inl, inr, ⊎-elim}
 use lib.Dec.{eqb, ltb}
 use borrow.Author.Tests.{eq-eqb, ne-eqb, eqb-true, eqb-false, le-ltb}
-use Rattle.lists.proofs.Over.{le-or-lt, below-largest}
+use Rattle.lists.proofs.Over.{le-or-lt, same-or-not, below-largest}
 use Rattle.global.proofs.MoreRange.{atLargest, first-largest}
 use Rattle.lists.specs.Range.{largestTo, firstSuch}
 use Rattle.lists.proofs.First.{firstSuch-nowhere, firstSuch-none, firstSuch-means, IsFirstSuch}
 use Rattle.global.specs.Leading.{beats, beatenBy, unbeaten, led}
-
--- Two numbers are the same or not.
-pub same-or-not : (a b : ℕ) → (a ≡ b) ⊎ (a ≡ b → ⊥)
-same-or-not a b = elim (ℕ-discrete a b) [ yes e ↦ inl e | no n ↦ inr n ]
 
 module _ (h c : ℕ → ℕ) (m l : ℕ) where
   -- A resource leads, or counts as not held.

@@ -4,3 +4,5 @@ pub mod Over
 pub mod UpTo
 pub mod Turn
 pub mod Filled
+pub mod Put
+pub mod Raised

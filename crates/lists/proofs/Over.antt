@@ -1,7 +1,7 @@
 -- Laws of sums, largest values and "every" over a range. Assumes nothing.
 use Prim.Native.Nat.{ℕ, zero, suc, _+_, _*_, _≤_, _<_, max}
 use native.Mathlib.Nat.{eq-or-lt-of-le, le-max-left, le-max-right, max-le, le-trans, suc-mul, lt-of-not-le}
-use native.Mathlib.Decide.{decLe}
+use native.Mathlib.Decide.{decLe, ℕ-discrete}
 use native.Mathlib.Numerals.{add-one}
 use native.Mathlib.Omega.{arith}
 use mathlib.Core.Path.{_≡_, refl, sym, ap, ap₂, _∙_}
@@ -12,6 +12,10 @@ use Rattle.lists.specs.Range.{sumTo, largestTo, allTo}
 -- Two numbers are in order one way or the other.
 pub le-or-lt : (a b : ℕ) → (a ≤ b) ⊎ (b < a)
 le-or-lt a b = elim (decLe a b) [ yes h ↦ inl h | no h ↦ inr (lt-of-not-le h) ]
+
+-- They are the same or they are not.
+pub same-or-not : (a b : ℕ) → (a ≡ b) ⊎ (a ≡ b → ⊥)
+same-or-not a b = elim (ℕ-discrete a b) [ yes e ↦ inl e | no n ↦ inr n ]
 
 ------------------------------------------------------------------------
 -- Sums

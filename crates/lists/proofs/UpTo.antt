@@ -36,6 +36,10 @@ module _ {A : Type 0} where
   unfolding padded
   length-padded f d most n h = simp (length-append, length-replicate) (omega (arith, length-upTo f n))
 
+  pub padded-ext : (f g : ℕ → A) (d : A) (most n : ℕ) → ((i : ℕ) → i < n → f i ≡ g i) → padded f d most n ≡ padded g d most n
+  unfolding padded
+  padded-ext f g d most n h = ap (λ (xs : List A). xs ++ replicate (most - n) d) (upTo-ext f g n h)
+
   -- Before anything is filled in, all is padding.
   pub padded-none : (f : ℕ → A) (d : A) (most : ℕ) → padded f d most 0 ≡ replicate most d
   unfolding padded upTo

@@ -4,7 +4,7 @@ use Prim.Native.Nat.{ℕ, zero, suc, _+_, _-_, max}
 use mathlib.Core.Bool.{Bool, true, false, cond, _&&_}
 use mathlib.Core.Option.{Option, none, some}
 use mathlib.Core.List.{List, [], _∷_, _++_}
-use lib.Dec.{eqb}
+use lib.Dec.{eqb, ltb}
 use lib.ListN.{replicate}
 
 -- f 0 + f 1 + … + f (n − 1).
@@ -16,6 +16,10 @@ sumTo f (suc n) = sumTo f n + f n
 unfoldable pub largestTo : (ℕ → ℕ) → ℕ → ℕ
 largestTo f zero = zero
 largestTo f (suc n) = max (largestTo f n) (f n)
+
+-- The largest of f (s + 1), f (s + 2), …, f (n − 1); 0 where there is none.
+unfoldable pub behind : (ℕ → ℕ) → ℕ → ℕ → ℕ
+behind f n s = largestTo (λ t. cond (ltb s t) (f t) 0) n
 
 -- Whether each of 0, 1, …, n − 1 passes the test.
 unfoldable pub allTo : (ℕ → Bool) → ℕ → Bool

@@ -4,7 +4,6 @@ use Prim.Native.Nat.{ℕ, zero, suc, _+_, _-_, _≤_, _<_, max}
 use native.Mathlib.Nat.{max-eq-left}
 use native.Mathlib.Numerals.{add-one}
 use native.Mathlib.Omega.{arith}
-use native.Mathlib.Decide.{ℕ-discrete}
 use mathlib.Core.Path.{_≡_, refl, sym, ap, _∙_}
 use mathlib.Core.Bool.{cond}
 use mathlib.Core.List.{List}
@@ -14,16 +13,13 @@ use lib.ListN.{length, getD, set, replicate, length-set, length-replicate, getD-
 use lib.Seq.{ext-getD, getD-set-same, getD-set-other, getD-append-add, set-getD}
 use borrow.Author.Tests.{eq-eqb, ne-eqb}
 use Rattle.lists.specs.Range.{sumTo, largestTo, upTo, padded}
-use Rattle.lists.proofs.Over.{le-or-lt, largestTo-zero, largestTo-suc, largestTo-ext, below-largest, largest-at-most}
+use Rattle.lists.proofs.Over.{le-or-lt, same-or-not, largestTo-zero, largestTo-suc, largestTo-ext, below-largest, largest-at-most}
 use Rattle.lists.proofs.UpTo.{length-upTo, length-padded, getD-padded}
 use Rattle.table.specs.Limits.{most}
 use Rattle.table.specs.Grid.{countIn, workIn, accessIn, subsystemIn}
 use Rattle.rules.specs.Holding.{workAbove, resourceHolding, holding}
 use Rattle.rules.specs.Held.{accessTo, slotOf, HeldSoFar, HeldUpTo}
 use Rattle.rules.proofs.HoldingLaws.{CeilingFrom, ceiling-from-zero, ceiling-next, ceiling-here, work-above-is, nothing-held, something-held, holding-is}
-
-same-or-not : (a b : ℕ) → (a ≡ b) ⊎ (a ≡ b → ⊥)
-same-or-not a b = elim (ℕ-discrete a b) [ yes e ↦ inl e | no n ↦ inr n ]
 
 -- Past the last, all is padding.
 getD-past : (f : ℕ → ℕ) (d n size k : ℕ) → n ≤ k → k < size → getD (padded f d size n) k d ≡ d

@@ -1,11 +1,11 @@
 -- Laws of the table that is taken out of a grid: it is filled slot by slot, and what a file's table means gives that table
 -- back. Assumes nothing.
-use Prim.Native.Nat.{ℕ, _+_, _-_, _<_}
+use Prim.Native.Nat.{ℕ, _+_, _<_}
 use mathlib.Core.Path.{_≡_, sym, ap, _∙_}
-use mathlib.Core.List.{List, _++_}
-use lib.ListN.{length, drop, set, replicate}
+use mathlib.Core.List.{List}
+use lib.ListN.{length, drop, set}
 use Rattle.lists.specs.Range.{upTo, padded}
-use Rattle.lists.proofs.UpTo.{length-upTo, getD-upTo, upTo-ext, padded-turn, padded-none}
+use Rattle.lists.proofs.UpTo.{length-upTo, getD-upTo, padded-ext, padded-turn, padded-none}
 use Rattle.table.specs.Limits.{most}
 use Rattle.table.specs.Zeros.{zeroTask, zeroSubsystem, zeroTable}
 use Rattle.table.specs.Meaning.{TaskM, SubsystemM, System, accessAt, taskM, subsystemM, meaning}
@@ -118,10 +118,6 @@ module _ (sys : System) where
 
 ------------------------------------------------------------------------
 -- What is read has zeros in every other slot: its meaning gives it back
-
-padded-ext : {A : Type 0} (f g : ℕ → A) (d : A) (k n : ℕ) → ((i : ℕ) → i < n → f i ≡ g i) → padded f d k n ≡ padded g d k n
-unfolding padded
-padded-ext {A} f g d k n h = ap (λ (l : List A). l ++ replicate (k - n) d) (upTo-ext f g n h)
 
 task-is-taken : (m : ℕ) (value : List ℕ) → taskWith (taskM m (decodedTask m value)) ≡ decodedTask m value
 unfolding taskWith taskM decodedTask accessOf
