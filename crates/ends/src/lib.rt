@@ -2,7 +2,6 @@
 // resource. The rows of crate `global` go through all of them; this is for whoever asks about one. Every function here is
 // proved, and the crate assumes nothing.
 use global::Common;
-use global::blocking_of;
 use global::interfaces;
 use global::interfaces::WIDTH;
 use least::demand_in;
@@ -39,9 +38,8 @@ fn blocking_in(
     requires { ⌜ s < n ⌝ }
     ensures { λ r. ⌜ r ≡ blocking (interfacesIn n m (now (lines .entry))) s ⌝ }
 {
-    let ceilings = common.ceilings;
-    let costs = common.costs;
-    blocking_of(lines, n, m, &costs[..n], &ceilings[..m], s)
+    let blockings = common.blockings;
+    blockings[s]
 }
 
 // The number of jobs in the active period of subsystem s, 0 where none ends within the horizon. The search goes on from the first

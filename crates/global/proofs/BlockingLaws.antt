@@ -1,29 +1,22 @@
--- Laws of blocking: higher subsystems and the subsystem itself do not block, a lower one blocks by its line, and one that holds
--- no resource longer than the largest so far adds nothing. Assumes nothing.
-use Prim.Native.Nat.{ℕ, _+_, _-_, _≤_, _<_, max}
+-- Laws of blocking: B(s) looks at every resource of every lower subsystem; resource by resource it is the same. Assumes nothing.
+use Prim.Native.Nat.{ℕ, _+_, _≤_, _<_, max}
 use native.Mathlib.Omega.{arith}
 use mathlib.Core.Path.{_≡_, refl, sym, ap, ap₂, _∙_}
 use mathlib.Core.Bool.{Bool, true, false, cond}
 use mathlib.Core.List.{List}
 use lib.Dec.{leb, ltb}
-use lib.ListN.{length, getD}
-use borrow.Author.Tests.{lt-ltb, le-ltb, le-leb, lt-leb}
-use Rattle.lists.specs.Range.{largestTo, upTo}
-use Rattle.lists.proofs.Over.{largestTo-ext, largest-at-most, below-largest}
-use Rattle.lists.proofs.UpTo.{length-upTo, getD-upTo}
-use Rattle.global.specs.Interfaces.{InterfacesM, budgetAt, heldAt, interfacesIn}
-use Rattle.global.specs.Parts.{budgetOf, holdingOf, holding, costOf}
+use lib.ListN.{replicate}
+use Rattle.lists.specs.Range.{largestTo, behind, padded}
+use Rattle.lists.proofs.Over.{largestTo-zero, largestTo-ext, largestTo-suc, largest-at-most, below-largest}
+use Rattle.lists.proofs.Put.{all-padding}
+use Rattle.lists.proofs.Raised.{largest-where, largest-swap}
+use Rattle.table.specs.Limits.{most}
+use Rattle.global.specs.Interfaces.{InterfacesM, heldAt, interfacesIn}
+use Rattle.global.specs.Parts.{count, holdingOf, holding}
 use Rattle.global.specs.Blocking.{outerCeiling, reaching, blockingBy, blocking}
-use Rattle.global.specs.Blocked.{reachingIn}
-use Rattle.global.proofs.Slots.{count-of, budget-of-slot, holding-of-slot}
-use Rattle.global.proofs.MoreRange.{largest-old, largest-kept, largest-raised}
-
--- No subsystem up to s blocks s.
-pub higher-block-not : (g : InterfacesM) (s : ℕ) → 0 ≡ largestTo (blockingBy g s) (s + 1)
-unfolding blockingBy
-higher-block-not g s =
-    let none : (t : ℕ) → t < s + 1 → blockingBy g s t ≤ 0 = λ t h. rw (le-ltb s t (omega arith)) (omega arith) in
-    omega (arith, largest-at-most (blockingBy g s) (s + 1) 0 none)
+use Rattle.global.specs.Blocked.{ceilingIn, columnOf, waitIn, blockedIn}
+use Rattle.global.proofs.Slots.{count-of, holding-of-slot}
+use Rattle.global.proofs.CeilingLaws.{ceiling-of-slots}
 
 at-most : (b : Bool) (x y : ℕ) → x ≤ y → cond b x 0 ≤ y
 at-most true x y h = h
@@ -37,54 +30,49 @@ blocking-by-at-most g s t =
     (largest-at-most (reaching g s t) (g .resources) (largestTo (holdingOf g t) (g .resources))
     (λ l h. at-most (leb (outerCeiling g l) s) _ _ (below-largest (holdingOf g t) (g .resources) l h)))
 
-module _ (n m : ℕ) (lines : List (List ℕ)) (s : ℕ) where
-  -- B(s) over the lines in use.
-  pub blocking-over-slots : largestTo (blockingBy (interfacesIn n m lines) s) n ≡ blocking (interfacesIn n m lines) s
-  unfolding blocking
-  blocking-over-slots = ap (largestTo (blockingBy (interfacesIn n m lines) s)) (sym (count-of n m lines))
+-- What subsystem t adds to the blocking of s with resource l.
+abbrev share : InterfacesM → (s t l : ℕ) → ℕ
+share g s t l = cond (leb (outerCeiling g l) s) (cond (ltb s t) (holdingOf g t l) 0) 0
 
-  -- A lower subsystem blocks as its line and the ceilings say.
-  pub blocking-by-slot : (ceilings : List ℕ) → ceilings ≡ upTo (outerCeiling (interfacesIn n m lines)) m → (t : ℕ) → s < t → t < n → largestTo (reachingIn (heldAt lines t) ceilings s) (length ceilings) ≡ blockingBy (interfacesIn n m lines) s t
-  unfolding blockingBy reaching reachingIn interfacesIn
-  blocking-by-slot ceilings e t h k =
-      let size : length ceilings ≡ m = ap length e ∙ length-upTo _ _ in
-      rw (lt-ltb s t h)
-      (ap (largestTo (reachingIn (heldAt lines t) ceilings s)) size ∙
-      largestTo-ext (reachingIn (heldAt lines t) ceilings s) (reaching (interfacesIn n m lines) s t) m
-      (λ l u.
-      ap₂ (λ (c x : ℕ). cond (leb c s) x 0)
-      (ap (λ (cs : List ℕ). getD cs l 0) e ∙ getD-upTo (outerCeiling (interfacesIn n m lines)) m l 0 u)
-      (sym (holding-of-slot n m lines t l k u))))
+both : (a b : Bool) (x : ℕ) → cond a (cond b x 0) 0 ≡ cond b (cond a x 0) 0
+both true b x = refl
+both false true x = refl
+both false false x = refl
 
-  -- What subsystem t costs beyond its budget is X(t).
-  pub costs-beyond : (costs : List ℕ) → costs ≡ upTo (costOf (interfacesIn n m lines)) n → (t : ℕ) → t < n → getD costs t 0 ≡ budgetAt lines t + holding (interfacesIn n m lines) t
-  unfolding costOf
-  costs-beyond costs e t h =
+-- Of subsystem t, over the resources.
+by-subsystem : (g : InterfacesM) (s t : ℕ) → largestTo (share g s t) (g .resources) ≡ blockingBy g s t
+unfolding blockingBy reaching
+by-subsystem g s t =
+    largestTo-ext (share g s t) (λ l. cond (ltb s t) (cond (leb (outerCeiling g l) s) (holdingOf g t l) 0) 0) (g .resources)
+    (λ l h. both (leb (outerCeiling g l) s) (ltb s t) (holdingOf g t l)) ∙
+    sym (largest-where (ltb s t) (λ l. cond (leb (outerCeiling g l) s) (holdingOf g t l) 0) (g .resources))
+
+-- Without a resource nothing blocks.
+pub blocked-none : (n : ℕ) (lines : List (List ℕ)) → n ≤ most → replicate most 0 ≡ padded (blockedIn lines n 0) 0 most n
+blocked-none n lines few = all-padding (blockedIn lines n 0) 0 most n few (λ s h. unfold blockedIn in largestTo-zero (waitIn lines n s))
+
+-- One more resource, whose ceiling is c.
+pub blocked-more : (n : ℕ) (lines : List (List ℕ)) (l c : ℕ) → c ≡ ceilingIn lines n l → (s : ℕ) → s < n → blockedIn lines n (l + 1) s ≡ max (blockedIn lines n l s) (cond (leb c s) (behind (columnOf lines l) n s) 0)
+unfolding blockedIn waitIn
+blocked-more n lines l c e s h = largestTo-suc (waitIn lines n s) l ∙ ap (λ (r : ℕ). max (largestTo (waitIn lines n s) l) (cond (leb r s) (behind (columnOf lines l) n s) 0)) (sym e)
+
+module _ (n m : ℕ) (lines : List (List ℕ)) where
+  -- Of resource l, over the subsystems.
+  by-resource : (s l : ℕ) → l < m → waitIn lines n s l ≡ largestTo (λ t. share (interfacesIn n m lines) s t l) n
+  unfolding waitIn behind
+  by-resource s l h =
       let g = interfacesIn n m lines in
-      let cost : getD costs t 0 ≡ budgetOf g t + holding g t =
-      ap (λ (cs : List ℕ). getD cs t 0) e ∙ getD-upTo (costOf g) n t 0 h in
-      omega (arith, cost, budget-of-slot n m lines t h)
+      ap₂ (λ (c x : ℕ). cond (leb c s) x 0) (ceiling-of-slots n m lines l h)
+      (largestTo-ext (λ t. cond (ltb s t) (heldAt lines t l) 0) (λ t. cond (ltb s t) (holdingOf g t l) 0) n
+      (λ t k. ap (λ (x : ℕ). cond (ltb s t) x 0) (sym (holding-of-slot n m lines t l k h)))) ∙
+      largest-where (leb (outerCeiling g l) s) (λ t. cond (ltb s t) (holdingOf g t l) 0) n
 
-  -- One that holds none longer than the largest so far adds nothing to it.
-  pub blocking-by-less : (costs : List ℕ) → costs ≡ upTo (costOf (interfacesIn n m lines)) n → (t : ℕ) → t < n → {best q : ℕ} → best ≡ largestTo (blockingBy (interfacesIn n m lines) s) t → q ≡ budgetAt lines t → getD costs t 0 - q ≤ best → best ≡ largestTo (blockingBy (interfacesIn n m lines) s) (t + 1)
-  blocking-by-less costs e t h {best} {q} b k u =
+  -- B(s), resource by resource.
+  pub blocked-is : (s : ℕ) → blockedIn lines n m s ≡ blocking (interfacesIn n m lines) s
+  unfolding blockedIn blocking interfacesIn
+  blocked-is s =
       let g = interfacesIn n m lines in
-      b ∙
-      sym (largest-old (blockingBy g s) t (omega (arith, costs-beyond costs e t h, k, b, u, blocking-by-at-most g s t)))
-
--- One more resource of a subsystem, in the order of its holding times h and the largest so far.
-module _ (h : ℕ → ℕ) (ceilings : List ℕ) (s l former : ℕ) {best x : ℕ} (e : best ≡ max former (largestTo (reachingIn h ceilings s) l)) (k : x ≡ h l) where
-  -- It is held no longer.
-  pub reaching-less : x ≤ best → best ≡ max former (largestTo (reachingIn h ceilings s) (l + 1))
-  unfolding reachingIn
-  reaching-less u = largest-kept _ l former e (at-most (leb (getD ceilings l 0) s) (h l) best (omega arith))
-
-  -- Its ceiling does not reach s.
-  pub reaching-not : s < getD ceilings l 0 → best ≡ max former (largestTo (reachingIn h ceilings s) (l + 1))
-  unfolding reachingIn
-  reaching-not u = largest-kept _ l former e (rw (lt-leb (getD ceilings l 0) s u) (omega arith))
-
-  -- It is held longer, and its ceiling reaches s.
-  pub reaching-longer : best < x → getD ceilings l 0 ≤ s → x ≡ max former (largestTo (reachingIn h ceilings s) (l + 1))
-  unfolding reachingIn
-  reaching-longer b u = largest-raised _ l former e (k ∙ rw (le-leb (getD ceilings l 0) s u) refl) b
+      largestTo-ext (waitIn lines n s) (λ l. largestTo (λ t. share g s t l) n) m (by-resource s) ∙
+      largest-swap (share g s) m n ∙
+      largestTo-ext (λ t. largestTo (share g s t) m) (blockingBy g s) n (λ t h. by-subsystem g s t) ∙
+      ap (largestTo (blockingBy g s)) (sym (count-of n m lines))

@@ -43,6 +43,15 @@ module _ (lines : List (List ℕ)) (n l : ℕ) where
   pub ceiling-over : (s : ℕ) → n ≤ s → leftFrom lines n l s ≡ leftFrom lines n l 0 → n - 1 ≡ ceilingIn lines n l
   ceiling-over s h e = sym (by-search (sym e ∙ firstSuch-over (accessesIn lines l) n s h))
 
+  -- It is one of the lines.
+  pub ceiling-listed : 1 ≤ n → ceilingIn lines n l < n
+  unfolding ceilingIn
+  ceiling-listed least = go (firstSuch (accessesIn lines l) n 0) refl
+    where
+      go : (o : Option ℕ) → firstSuch (accessesIn lines l) n 0 ≡ o → numberOr (n - 1) (firstSuch (accessesIn lines l) n 0) < n
+      go (some x) e = rw e (omega (arith, firstSuch-means (accessesIn lines l) n 0 x e .within))
+      go none e = rw e (omega arith)
+
 -- What the lines show is RC(l), for each resource in use.
 pub ceiling-of-slots : (n m : ℕ) (lines : List (List ℕ)) (l : ℕ) → l < m → ceilingIn lines n l ≡ outerCeiling (interfacesIn n m lines) l
 unfolding ceilingIn outerCeiling accessesIn accesses

@@ -20,7 +20,7 @@ use Rattle.global.specs.Sound.{Sound, Sound-view, Counted}
 use Rattle.global.proofs.Slots.{some-of, few-of, few-resources-of, count-of, resources-of, budget-of-slot, holding-of-slot}
 use Rattle.global.proofs.ViewLaws.{view-sound, resources-seen, held-seen, ceiling-seen, cost-seen}
 use Rattle.global.proofs.BudgetEndLaws.{jobs-before-within}
-use Rattle.global.proofs.SeenLaws.{long-enough, used-length, used-part, shared-periods, shared-costs, shared-frees, shared-ceilings}
+use Rattle.global.proofs.SeenLaws.{long-enough, used-length, used-part, shared-periods, shared-costs, shared-frees, shared-ceilings, shared-blockings}
 
 -- Sound interfaces with what their rows share.
 module _ (n m : ℕ) (lines : List (List ℕ)) (c : Common) (sound : Sound (interfacesIn n m lines)) (e : c ≡ commonOf (interfacesIn n m lines)) where
@@ -94,6 +94,11 @@ module _ (n m : ℕ) (lines : List (List ℕ)) (c : Common) (sound : Sound (inte
       cost-lent =
           ap (λ (r : _). getD r s 0) (shared-costs n m lines c e) ∙ getD-padded (costOf (interfacesIn n m lines)) 0 0 most n s h ∙
           sym (cost-seen (interfacesIn n m lines) s)
+
+      -- B(s) in its slot.
+      pub blocking-lent : getD (c .blockings) s 0 ≡ blocking (interfacesIn n m lines) s
+      blocking-lent =
+          ap (λ (r : _). getD r s 0) (shared-blockings n m lines c e) ∙ getD-padded (blocking (interfacesIn n m lines)) 0 0 most n s h
 
       -- B(s) + k × (Q + X) + Q as the code adds it up.
       pub ahead-lent : (k : ℕ) {b q : ℕ} → b ≡ blocking (interfacesIn n m lines) s → q ≡ budgetAt lines s → b + k * getD (c .costs) s 0 + q ≡ ahead (viewOf (interfacesIn n m lines) s) k

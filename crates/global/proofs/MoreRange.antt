@@ -18,13 +18,6 @@ use Rattle.global.specs.Response.{firstAt}
 pub largest-step : (f : ℕ → ℕ) (n : ℕ) {b v r : ℕ} → b ≡ largestTo f n → v ≡ f n → r ≡ max b v → r ≡ largestTo f (n + 1)
 largest-step f n e q h = h ∙ ap₂ max e q ∙ sym (largestTo-suc f n)
 
--- The largest so far and of a range: one more value that is no larger, and one that is.
-pub largest-kept : (f : ℕ → ℕ) (n : ℕ) (a : ℕ) {b : ℕ} → b ≡ max a (largestTo f n) → f n ≤ b → b ≡ max a (largestTo f (n + 1))
-largest-kept f n a e h = omega (arith, e, largestTo-suc f n)
-
-pub largest-raised : (f : ℕ → ℕ) (n : ℕ) (a : ℕ) {b v : ℕ} → b ≡ max a (largestTo f n) → v ≡ f n → b < v → v ≡ max a (largestTo f (n + 1))
-largest-raised f n a e q h = omega (arith, e, q, largestTo-suc f n)
-
 -- Whether f is at its largest at i.
 abbrev pub atLargest : (ℕ → ℕ) → ℕ → ℕ → Bool
 atLargest f n i = eqb (f i) (largestTo f n)

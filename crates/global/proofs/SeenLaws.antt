@@ -58,6 +58,10 @@ module _ (n m : ℕ) (lines : List (List ℕ)) (c : Common) (e : c ≡ commonOf 
   unfolding commonOf interfacesIn
   shared-ceilings = ap (λ (x : Common). x .ceilings) e
 
+  pub shared-blockings : c .blockings ≡ padded (blocking (interfacesIn n m lines)) 0 most n
+  unfolding commonOf
+  shared-blockings = ap (λ (x : Common). x .blockings) e ∙ ap (padded (blocking (interfacesIn n m lines)) 0 most) (count-of n m lines)
+
 -- Which resources lead depends on the resources in use alone.
 led-ext : (h h2 c c2 : ℕ → ℕ) (m l : ℕ) → l < m → ((j : ℕ) → j < m → h j ≡ h2 j) → ((j : ℕ) → j < m → c j ≡ c2 j) → led h c m l ≡ led h2 c2 m l
 unfolding led beatenBy

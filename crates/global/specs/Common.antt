@@ -1,11 +1,11 @@
--- What the rows of all subsystems share, as the code holds it: the loads and the outer ceilings, in arrays filled up with 0.
+-- What the rows of all subsystems share, as the code holds it: the loads, the outer ceilings and the blockings, in arrays filled up with 0.
 -- Assumes nothing.
 use Rattle.lists.specs.Range.{padded}
 use Rattle.table.specs.Limits.{most}
 use Rattle.global.specs.declared.ceilings.Common.{Common}
 use Rattle.global.specs.Interfaces.{InterfacesM}
 use Rattle.global.specs.Parts.{count, periodOf, costOf, freeOf}
-use Rattle.global.specs.Blocking.{outerCeiling}
+use Rattle.global.specs.Blocking.{outerCeiling, blocking}
 
 unfoldable pub commonOf : InterfacesM → Common
 commonOf g =
@@ -14,4 +14,5 @@ commonOf g =
       costs = padded (costOf g) 0 most (count g);
       frees = padded (freeOf g) 0 most (count g);
       ceilings = padded (outerCeiling g) 0 most (g .resources);
+      blockings = padded (blocking g) 0 most (count g);
     }

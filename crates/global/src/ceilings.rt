@@ -1,4 +1,5 @@
 // Outer ceilings, and what the rows of all subsystems share: the loads that subsystems are to each other.
+use crate::blocking::blockings_of;
 use crate::interfaces::WIDTH;
 use crate::interfaces::budget;
 use crate::interfaces::held;
@@ -18,13 +19,14 @@ ghost use Rattle.global.specs.Blocked.{ceilingIn};
 ghost use Rattle.global.specs.Common.{commonOf};
 ghost use Rattle.global.specs.Sound.{Sound};
 
-// What the rows of all subsystems share: P(s), Q(s) + X(s) and what that leaves free of P(s), of each subsystem, and RC(l) of each
-// resource. Slots past the counts are 0.
+// What the rows of all subsystems share: P(s), Q(s) + X(s), what that leaves free of P(s), and B(s), of each subsystem, and RC(l) of
+// each resource. Slots past the counts are 0.
 pub struct Common {
     pub periods: [u32; Table::MOST],
     pub costs: [u32; Table::MOST],
     pub frees: [u32; Table::MOST],
     pub ceilings: [usize; Table::MOST],
+    pub blockings: [u32; Table::MOST],
 }
 
 // X(s): the largest holding time over the first m resources.
@@ -120,11 +122,13 @@ pub fn in_common(lines: &[[u32; WIDTH]; Table::MOST], n: usize, m: usize) -> Com
 {
     let periods = periods_of(lines, n);
     let costs = costs_of(lines, n, m);
+    let ceilings = ceilings_of(lines, n, m);
     Common {
         periods,
         costs,
         frees: frees_of(periods, costs, n),
-        ceilings: ceilings_of(lines, n, m),
+        ceilings,
+        blockings: blockings_of(lines, n, m, ceilings),
     }
 }
 

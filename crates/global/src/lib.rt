@@ -10,7 +10,6 @@ mod leading;
 mod responses;
 mod rows;
 
-pub use blocking::blocking_of;
 pub use ceilings::Common;
 pub use ceilings::fitting_of;
 pub use ceilings::in_common;

@@ -1,7 +1,6 @@
 // The row of a subsystem.
 use crate::Outcome;
 use crate::Row;
-use crate::blocking::blocking_of;
 use crate::ceilings::Common;
 use crate::interfaces::WIDTH;
 use crate::interfaces::budget;
@@ -233,12 +232,13 @@ pub fn row_of(
     let costs = common.costs;
     let frees = common.frees;
     let ceilings = common.ceilings;
+    let blockings = common.blockings;
     let held = leading(lines, s, &ceilings[..m]);
     let own = Own {
         place: s,
         period: period(lines, s),
         budget: budget(lines, s),
-        blocking: blocking_of(lines, n, m, &costs[..n], &ceilings[..m], s),
+        blocking: blockings[s],
     };
     row_seen(
         &periods[..n],
