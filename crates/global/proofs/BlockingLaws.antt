@@ -28,7 +28,7 @@ unfolding blockingBy reaching holding
 blocking-by-at-most g s t =
     at-most (ltb s t) _ _
     (largest-at-most (reaching g s t) (g .resources) (largestTo (holdingOf g t) (g .resources))
-    (λ l h. at-most (leb (outerCeiling g l) s) _ _ (below-largest (holdingOf g t) (g .resources) l h)))
+    (λ l h. at-most _ _ _ (below-largest (holdingOf g t) (g .resources) l h)))
 
 -- What subsystem t adds to the blocking of s with resource l.
 abbrev share : InterfacesM → (s t l : ℕ) → ℕ

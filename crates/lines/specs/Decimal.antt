@@ -14,6 +14,10 @@ unfoldable pub digits : ℕ → ℕ → List ℕ
 digits zero n = []
 digits (suc most) n = let front = digits most (n / 10) in cond (ltb n 10) (digitByte n ∷ []) (front ++ (digitByte (n % 10) ∷ []))
 
+-- The two digits of a number below 100, the first of which may be 0.
+abbrev pub pair : ℕ → List ℕ
+pair n = digitByte (n / 10) ∷ digitByte (n % 10) ∷ []
+
 -- A number of the table's width, below 4,294,967,296, has ten digits at the most.
 unfoldable pub decimal : ℕ → List ℕ
 decimal n = digits 10 n

@@ -6,7 +6,7 @@ ghost use mathlib.Core.List.{[], _∷_};
 ghost use Prim.Native.Nat.{_+_, _≤_, _<_};
 ghost use lib.ListN.{length};
 ghost use Rattle.lines.specs.Written.{written};
-ghost use Rattle.lines.specs.Decimal.{decimal, digitByte};
+ghost use Rattle.lines.specs.Decimal.{decimal, digitByte, pair};
 
 // One byte.
 pub fn put_byte(buf: &mut [u8], at: usize, b: u8) -> usize
@@ -42,26 +42,37 @@ pub fn put_number(buf: &mut [u8], at: usize, n: u32) -> usize
     put_digits(buf, at, n)
 }
 
-// The same for a number of two digits.
-fn put_two(buf: &mut [u8], at: usize, x: u32) -> usize
-    requires { ⌜ (10 ≤ x) × (x < 100) × (at + length (decimal x) ≤ length (now buf)) ⌝ }
-    ensures { λ r. ⌜ (r ≡ at + length (decimal x)) × (now (buf .exit) ≡ written (now (buf .entry)) at (decimal x)) ⌝ }
+// Two digits, of which the first may be 0.
+fn put_pair(buf: &mut [u8], at: usize, x: u32) -> usize
+    requires { ⌜ (x < 100) × (at + 2 ≤ length (now buf)) ⌝ }
+    ensures { λ r. ⌜ (r ≡ at + 2) × (now (buf .exit) ≡ written (now (buf .entry)) at (pair x)) ⌝ }
 {
     let last = put_byte(buf, at, digit(x / 10));
     put_byte(buf, last, digit(x % 10))
 }
 
-// The same for a number of two digits or more: the digits before the last, then the last. Two digits are written at once, which
-// spares the innermost call.
+// A number of three digits: the first, then the two behind it.
+fn put_three(buf: &mut [u8], at: usize, x: u32) -> usize
+    requires { ⌜ (100 ≤ x) × (x < 1000) × (at + length (decimal x) ≤ length (now buf)) ⌝ }
+    ensures { λ r. ⌜ (r ≡ at + length (decimal x)) × (now (buf .exit) ≡ written (now (buf .entry)) at (decimal x)) ⌝ }
+{
+    let last = put_byte(buf, at, digit(x / 100));
+    put_pair(buf, last, x % 100)
+}
+
+// A number of two digits or more: the digits before the last two, then those. Up to three digits need no call of its own.
 fn put_digits(buf: &mut [u8], at: usize, x: u32) -> usize
     requires { ⌜ (10 ≤ x) × (at + length (decimal x) ≤ length (now buf)) ⌝ }
     ensures { λ r. ⌜ (r ≡ at + length (decimal x)) × (now (buf .exit) ≡ written (now (buf .entry)) at (decimal x)) ⌝ }
 {
     if x < 100 {
-        return put_two(buf, at, x);
+        return put_pair(buf, at, x);
     }
-    let last = put_digits(buf, at, x / 10);
-    put_byte(buf, last, digit(x % 10))
+    if x < 1000 {
+        return put_three(buf, at, x);
+    }
+    let last = put_digits(buf, at, x / 100);
+    put_pair(buf, last, x % 100)
 }
 
 // The byte of a digit.
