@@ -1,7 +1,7 @@
 -- Laws of the inner ceiling and the holding times: what each turn of a search, a sum or a largest settles, read off the block.
 -- Assumes nothing.
 use Prim.Native.Nat.{ℕ, zero, suc, _+_, _-_, _≤_, _<_, max}
-use native.Mathlib.Nat.{sub-zero}
+use native.Mathlib.Nat.{sub-zero, le-trans}
 use native.Mathlib.Omega.{arith}
 use mathlib.Core.Path.{_≡_, refl, sym, ap, _∙_}
 use mathlib.Core.Bool.{Bool, true, false, cond}
@@ -12,7 +12,7 @@ use lib.Dec.{ltb}
 use lib.ListN.{replicate}
 use Rattle.lists.specs.Range.{sumTo, largestTo, firstSuch, padded}
 use Rattle.lists.proofs.First.{firstSuch-here, firstSuch-next, firstSuch-over, firstSuch-means, firstSuch-ext}
-use Rattle.lists.proofs.Over.{sumTo-suc, sumTo-ext, largestTo-suc, largestTo-ext}
+use Rattle.lists.proofs.Over.{sumTo-suc, sumTo-ext, largestTo-suc, largestTo-ext, below-largest}
 use Rattle.table.specs.Limits.{most}
 use Rattle.table.specs.Meaning.{SubsystemM}
 use Rattle.table.specs.Parts.{taskCount, taskOf, accessOf, workOf}
@@ -118,6 +118,16 @@ module _ (block : List (List ℕ)) (l : ℕ) where
 -- A turn of the sum of the works.
 pub work-turn : (block : List (List ℕ)) (j sum w : ℕ) → sum ≡ sumTo (workIn block) j → w ≡ workIn block j → sum + w ≡ sumTo (workIn block) (j + 1)
 work-turn block j sum w e f = rw (sumTo-suc (workIn block) j, e, f) refl
+
+-- No access is longer than its resource's holding time.
+pub access-within-holding : (u : SubsystemM) (l i : ℕ) → i < taskCount u → accessOf (taskOf u i) l ≤ resourceHolding u l
+unfolding resourceHolding taskHolding uses
+access-within-holding u l i h =
+    le-trans (counted (accessOf (taskOf u i) l) (workAbove u l)) (below-largest (taskHolding u l) (taskCount u) i h)
+  where
+    counted : (c a : ℕ) → c ≤ cond (ltb 0 c) (c + a) 0
+    counted zero a = omega arith
+    counted (suc c) a = rw (lt-ltb 0 (suc c) (omega arith)) (omega arith)
 
 -- The largest over the resources.
 pub holding-is : (m l : ℕ) (u : SubsystemM) → l ≡ m → largestTo (resourceHolding u) l ≡ holding m u
