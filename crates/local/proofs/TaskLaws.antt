@@ -61,7 +61,7 @@ module _ (m : ℕ) (block : List (List ℕ)) where
           deadline-most = omega (arith, ok .deadline-by-separation, ok .separation-most, d);
         }
 
-    module _ (i : ℕ) (below : i < countIn block) (ceilings separations works : List ℕ) (out : TakenOut block m ceilings separations works i) where
+    module _ (i : ℕ) (below : i < countIn block) (separations works : List ℕ) (out : TakenOut block separations works i) where
       separation-taken : (j : ℕ) → j < i → getD separations j 0 ≡ separationIn block j
       separation-taken j h = rw (out .separations-are) (getD-padded (separationIn block) 0 0 most i j h)
 

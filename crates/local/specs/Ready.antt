@@ -1,12 +1,11 @@
 -- What the functions on one subsystem take for granted: what an admitted table has. Assumes nothing.
-use Prim.Native.Nat.{ℕ, _≤_, _<_, _^_}
+use Prim.Native.Nat.{ℕ, _≤_}
 use mathlib.Core.Path.{_≡_}
 use mathlib.Core.List.{List}
 use Rattle.lists.specs.Range.{padded}
 use Rattle.table.specs.Limits.{most}
-use Rattle.table.specs.Grid.{periodIn, budgetIn, countIn, separationIn, workIn, subsystemIn}
+use Rattle.table.specs.Grid.{periodIn, budgetIn, separationIn, workIn, subsystemIn}
 use Rattle.rules.specs.Admitted.{SoundSubsystem}
-use Rattle.rules.specs.Holding.{innerCeiling}
 use Rattle.local.specs.declared.Share.{Share}
 
 -- A budget of at least one tick, given among the first `end` ticks of a period.
@@ -15,17 +14,8 @@ pub record Sharing (share : Share) : Type 0 where
   pub budget-by-end : share .budget ≤ share .end
   pub end-by-period : share .end ≤ share .period
 
--- The m inner ceilings of a subsystem, for a task of it.
-pub record Ceilings (block : List (List ℕ)) (m : ℕ) (ceilings : List ℕ) (i : ℕ) : Type 0 where
-  pub some-task : 1 ≤ countIn block
-  pub tasks-most : countIn block ≤ most
-  pub resources-most : m ≤ most
-  pub task : i < countIn block
-  pub are : ceilings ≡ padded (innerCeiling (subsystemIn m block)) 0 most m
-
--- What is taken out of a subsystem for task i: the ceilings, and the separations and works of the tasks above it.
-pub record TakenOut (block : List (List ℕ)) (m : ℕ) (ceilings separations works : List ℕ) (i : ℕ) : Type 0 where
-  pub ceilings-are : ceilings ≡ padded (innerCeiling (subsystemIn m block)) 0 most m
+-- What is taken out of a subsystem for task i: the separations and works of the tasks above it.
+pub record TakenOut (block : List (List ℕ)) (separations works : List ℕ) (i : ℕ) : Type 0 where
   pub separations-are : separations ≡ padded (separationIn block) 0 most i
   pub works-are : works ≡ padded (workIn block) 0 most i
 

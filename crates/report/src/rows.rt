@@ -55,7 +55,7 @@ pub fn rows_of(
     while s < n {
         let block = &grid[s];
         let end = period(block) - (costs[s] - budget(block));
-        let failing = first_failing_task(block, m, end);
+        let failing = first_failing_task(block, m, &holdings[s], end);
         rows[s] = global::row_of(&lines, n, m, common, fits, s, failing as u32);
         s += 1;
     }

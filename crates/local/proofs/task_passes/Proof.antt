@@ -7,7 +7,6 @@ use Rattle.local.proofs.task_passes.Statement.{statement}
 use Rattle.local.proofs.task_passes.Tie as tie
 use Rattle.local.proofs.task_passes.Reads as reads
 use Rattle.local.proofs.task_passes.Lts as lts
-use Rattle.local.proofs.blocking.task_blocking.Reads as task-blocking-reads
 use Rattle.local.proofs.passing.held_within.Reads as held-within-reads
 use Rattle.numbers.proofs.wide.Reads as wide-reads
 use Rattle.table.proofs.grid.budget.Reads as budget-reads
@@ -15,44 +14,37 @@ use Rattle.table.proofs.grid.deadline.Reads as deadline-reads
 use Rattle.table.proofs.grid.period.Reads as period-reads
 use Rattle.table.proofs.grid.work.Reads as work-reads
 
--- src/lib.rt:43:9
-task-blocking-requires : tie.Need-task-blocking-requires
-task-blocking-requires c κs =
-    record {
-      some-task = some-task _ _ (c .pre .0 .sound);
-      tasks-most = tasks-within _ _ (c .pre .0 .sound);
-      resources-most = c .pre .0 .resources-most;
-      task = c .pre .1 .0;
-      are = c .pre .1 .1 .ceilings-are;
-    }
-
--- src/lib.rt:44:35
-work-requires : tie.Need-work-requires
-work-requires c κs = omega (arith, c .before .pre .1 .0, tasks-within _ _ (c .before .pre .0 .sound))
-
--- src/lib.rt:44:30
+-- src/lib.rt:47:20
 wide-requires : tie.Need-wide-requires
 wide-requires c κs = search needs
 
--- src/lib.rt:44:20
+-- src/lib.rt:47:41
+work-requires : tie.Need-work-requires
+work-requires c κs = omega (arith, c .before .pre .1 .0, tasks-within _ _ (c .before .pre .0 .sound))
+
+-- src/lib.rt:47:36
+wide-requires-2 : tie.Need-wide-requires-2
+wide-requires-2 c κs = search needs
+
+-- src/lib.rt:47:20
 add-constant : tie.Need-add-constant
 add-constant c = search needs
 
--- src/lib.rt:46:17
+-- src/lib.rt:49:17
 period-requires : tie.Need-period-requires
 period-requires c κs = search needs
 
--- src/lib.rt:47:17
+-- src/lib.rt:50:17
 budget-requires : tie.Need-budget-requires
 budget-requires c κs = search needs
 
--- src/lib.rt:50:59
+-- src/lib.rt:53:59
 deadline-requires : tie.Need-deadline-requires
 deadline-requires c κs =
     let s : tie.Start = c .before .before .before .before .before .before .before in
     omega (arith, s .pre .1 .0, tasks-within _ _ (s .pre .0 .sound))
 
--- src/lib.rt:50:5
+-- src/lib.rt:53:5
 held-within-requires : tie.Need-held-within-requires
 held-within-requires c κs =
     let p = c .before .before .before .before in
@@ -61,7 +53,7 @@ held-within-requires c κs =
     let s : tie.Start = t .before in
     let a = s .args in
     let ok : Within (a .m) (a .block .now) (s .pre .0 .sound) (a .i) = task-within _ _ (s .pre .0 .sound) _ (s .pre .1 .0) in (
-      tasks-are-loads (a .m) (a .block .now) (s .pre .0 .sound) (a .i) (s .pre .1 .0) _ _ _ (s .pre .1 .1),
+      tasks-are-loads (a .m) (a .block .now) (s .pre .0 .sound) (a .i) (s .pre .1 .0) _ _ (s .pre .1 .2),
       (
         record {
           budget-least = omega (arith, c .before .before .before .budget .ensures, some-budget _ _ (s .pre .0 .sound));
@@ -69,14 +61,14 @@ held-within-requires c κs =
           end-by-period = omega (arith, p .period .ensures, s .pre .0 .end-by-period);
         },
         (
-          omega (arith, w .wide .ensures .0, w .before .work .ensures, ok .work-least),
-          omega (arith, t .task-blocking .ensures .1, w .wide .ensures .1),
+          omega (arith, w .wide2 .ensures .0, w .before .work .ensures, ok .work-least),
+          omega (arith, t .wide .ensures .1, w .wide2 .ensures .1),
           omega (arith, c .deadline .ensures, ok .deadline-most),
         ),
       ),
     )
 
--- src/lib.rt:30:1
+-- src/lib.rt:34:1
 returns : tie.Need-returns
 returns c =
     let d = c .before in
@@ -86,15 +78,15 @@ returns c =
     let t = w .before .before in
     let s : tie.Start = t .before in
     c .held-within .ensures ∙
-    passes-by-block (s .args .m) (s .args .block .now) (s .pre .0 .sound) (s .args .i) (s .pre .1 .0) _ _ _ (s .pre .1 .1) (s .args .end) _ _ _ (t .task-blocking .ensures .0) (w .wide .ensures .0 ∙ w .before .work .ensures) (d .deadline .ensures) _ _ (p .period .ensures) (b .budget .ensures)
+    passes-by-block (s .args .m) (s .args .block .now) (s .pre .0 .sound) (s .args .i) (s .pre .1 .0) _ _ (s .pre .1 .2) (s .args .end) _ _ _ (t .wide .ensures .0 ∙ s .pre .1 .1) (w .wide2 .ensures .0 ∙ w .before .work .ensures) (d .deadline .ensures) _ _ (p .period .ensures) (b .budget .ensures)
 
 pub task-passes-spec : {M : Type 1} → statement M
 task-passes-spec =
     tie.close
     (tie.spec
-    task-blocking-requires
-    work-requires
     wide-requires
+    work-requires
+    wide-requires-2
     add-constant
     period-requires
     budget-requires

@@ -8,7 +8,7 @@ use Rattle.lists.proofs.UpTo.{padded-none}
 use Rattle.table.specs.Limits.{most}
 use Rattle.table.specs.Grid.{systemIn}
 use Rattle.report.specs.Report.{rowAt, noRow}
-use Rattle.report.proofs.InterfaceLaws.{few-subsystems, sound-lines}
+use Rattle.report.proofs.InterfaceLaws.{few-subsystems, held-slot, sound-lines}
 use Rattle.report.proofs.RowsLaws.{cost-from-budget, cost-to-period, ready-by-cost, row-filled}
 use Rattle.report.proofs.rows.rows_of.Statement.{statement}
 use Rattle.report.proofs.rows.rows_of.Tie as tie
@@ -46,39 +46,39 @@ fitting-of-requires c κs =
     let sound = sound-lines _ _ _ _ (io .interfaces-of .ensures) (s .pre .0) in
     (lent.all-lent (s .args .n) (s .args .m) _ _ sound (c .in-common .ensures), (lent.periods-long (s .args .n) (s .args .m) _ _ sound (c .in-common .ensures), lent.costs-long (s .args .n) (s .args .m) _ _ sound (c .in-common .ensures)))
 
--- src/rows.rt:52:21
+-- src/rows.rt:53:21
 no-row-requires : tie.Need-no-row-requires Inv-loop μ-loop
 no-row-requires c κs = search needs
 
--- src/rows.rt:54:5
+-- src/rows.rt:55:5
 loop-holds : tie.Need-loop-holds Inv-loop μ-loop
 loop-holds c = (few-subsystems _ _ _ (c .before .before .before .before .before .before .before .pre .0) .0, search needs, rw (c .no-row .ensures) (sym (padded-none _ _ _)))
 
--- src/rows.rt:55:21
+-- src/rows.rt:56:21
 mul-block : tie.Need-mul-block Inv-loop μ-loop
 mul-block c = search needs
 
--- src/rows.rt:55:13
+-- src/rows.rt:56:13
 index-1-block : tie.Need-index-1-block Inv-loop μ-loop
 index-1-block c = search needs
 
--- src/rows.rt:56:19
+-- src/rows.rt:57:19
 period-requires : tie.Need-period-requires Inv-loop μ-loop
 period-requires c κs = search needs
 
--- src/rows.rt:56:36
+-- src/rows.rt:57:36
 mul-end : tie.Need-mul-end Inv-loop μ-loop
 mul-end c = search needs
 
--- src/rows.rt:56:36
+-- src/rows.rt:57:36
 array-read-end : tie.Need-array-read-end Inv-loop μ-loop
 array-read-end c = search needs
 
--- src/rows.rt:56:47
+-- src/rows.rt:57:47
 budget-requires : tie.Need-budget-requires Inv-loop μ-loop
 budget-requires c κs = search needs
 
--- src/rows.rt:56:36
+-- src/rows.rt:57:36
 sub-end : tie.Need-sub-end Inv-loop μ-loop
 sub-end c =
     let b = c in
@@ -89,7 +89,7 @@ sub-end c =
     let below = b .before .before .before .loop-test .taken in
     cost-from-budget (s .args .n) (s .args .m) (s .args .grid .now) (k .loop .s) below _ _ (io .interfaces-of .ensures) (ic .in-common .ensures) _ _ (b .before .period .ensures) (b .budget .ensures)
 
--- src/rows.rt:56:19
+-- src/rows.rt:57:19
 sub-end-2 : tie.Need-sub-end-2 Inv-loop μ-loop
 sub-end-2 c =
     let b = c in
@@ -100,25 +100,35 @@ sub-end-2 c =
     let below = b .before .before .before .loop-test .taken in
     omega (arith, cost-to-period (s .args .n) (s .args .m) (s .args .grid .now) (k .loop .s) below _ _ (io .interfaces-of .ensures) (ic .in-common .ensures) _ _ (b .before .period .ensures) (b .budget .ensures) (s .pre .0))
 
--- src/rows.rt:57:13
+-- src/rows.rt:58:52
+mul-first-failing-task : tie.Need-mul-first-failing-task Inv-loop μ-loop
+mul-first-failing-task c = search needs
+
+-- src/rows.rt:58:52
+index-1-first-failing-task : tie.Need-index-1-first-failing-task Inv-loop μ-loop
+index-1-first-failing-task c = search needs
+
+-- src/rows.rt:58:13
 first-failing-task-requires : tie.Need-first-failing-task-requires Inv-loop μ-loop
 first-failing-task-requires c κs =
-    let b = c in
+    let b = c .before in
     let k = b .before .before .before .before in
     let ic = k .before .before .before .before in
     let io = ic .before .before in
     let s = io .before .before in
-    let below = b .before .before .before .loop-test .taken in
-    ready-by-cost (s .args .n) (s .args .m) (s .args .grid .now) (k .loop .s) below _ _ (io .interfaces-of .ensures) (ic .in-common .ensures) _ _ (b .before .period .ensures) (b .budget .ensures) (s .pre .0)
+    let below = b .before .before .before .loop-test .taken in (
+      ready-by-cost (s .args .n) (s .args .m) (s .args .grid .now) (k .loop .s) below _ _ (io .interfaces-of .ensures) (ic .in-common .ensures) _ _ (b .before .period .ensures) (b .budget .ensures) (s .pre .0),
+      held-slot (s .args .n) (s .args .m) (s .args .grid .now) (k .loop .s) below (s .args .holdings .now) (s .pre .1),
+    )
 
--- src/rows.rt:58:59
+-- src/rows.rt:59:65
 cast-row-of : tie.Need-cast-row-of Inv-loop μ-loop
 cast-row-of c = search needs
 
--- src/rows.rt:58:19
+-- src/rows.rt:59:19
 row-of-requires : tie.Need-row-of-requires Inv-loop μ-loop
 row-of-requires c κs =
-    let b = c .before .before in
+    let b = c .before .before .before in
     let k = b .before .before .before .before in
     let ic = k .before .before .before .before in
     let io = ic .before .before in
@@ -126,26 +136,26 @@ row-of-requires c κs =
     let below = b .before .before .before .loop-test .taken in
     (sound-lines _ _ _ _ (io .interfaces-of .ensures) (s .pre .0), (ic .in-common .ensures, (k .before .before .before .fitting-of .ensures, below)))
 
--- src/rows.rt:58:9
+-- src/rows.rt:59:9
 mul-rows : tie.Need-mul-rows Inv-loop μ-loop
 mul-rows c = search needs
 
--- src/rows.rt:58:9
+-- src/rows.rt:59:9
 array-set-from-rows : tie.Need-array-set-from-rows Inv-loop μ-loop
 array-set-from-rows c = search needs
 
--- src/rows.rt:59:9
+-- src/rows.rt:60:9
 add-s : tie.Need-add-s Inv-loop μ-loop
 add-s c = search needs
 
--- src/rows.rt:54:5
+-- src/rows.rt:55:5
 loop-less : tie.Need-loop-less Inv-loop μ-loop
 loop-less c = search needs
 
--- src/rows.rt:54:5
+-- src/rows.rt:55:5
 loop-again : tie.Need-loop-again Inv-loop μ-loop
 loop-again c =
-    let b = c .before .before .before in
+    let b = c .before .before .before .before in
     let k = b .before .before .before .before in
     let ic = k .before .before .before .before in
     let io = ic .before .before in
@@ -179,6 +189,8 @@ rows-of-spec =
     budget-requires
     sub-end
     sub-end-2
+    mul-first-failing-task
+    index-1-first-failing-task
     first-failing-task-requires
     cast-row-of
     row-of-requires
