@@ -32,7 +32,7 @@ fn raise_by(block: &[[u32; LINE]; BLOCK], m: usize, l: usize, blockings: &mut [u
     }
 }
 
-// b(i) of each task, and zeros behind them. No task accesses a resource whose holding time is 0, so it is passed over.
+// b(i) of each task, and zeros behind them. One task alone waits for none, and no task accesses a resource whose holding time is 0.
 pub fn task_blockings(
     block: &[[u32; LINE]; BLOCK],
     m: usize,
@@ -43,6 +43,9 @@ pub fn task_blockings(
     ensures { λ r. ⌜ r ≡ padded (taskBlocking m (subsystemIn m (now (block .entry)))) 0 most (countIn (now (block .entry))) ⌝ }
 {
     let mut blockings = [0u32; Table::MOST];
+    if count(block) == 1 {
+        return blockings;
+    }
     let mut l = 0;
     while l < m {
         if held[l] != 0 {

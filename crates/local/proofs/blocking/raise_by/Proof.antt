@@ -1,15 +1,27 @@
--- `local::blocking::raise_by` meets its contract. The loop's invariant: the tasks from j on are raised, and `longest` is what the resource
--- can hold up task j for. Assumes nothing.
+-- `local::blocking::raise_by` meets its contract. The loop's invariant: the tasks from j on are raised, and the longest access is that
+-- behind j. Assumes nothing.
+use Prim.Native.Nat.{ℕ, _-_, _≤_, _<_, max}
+use mathlib.Core.Path.{_≡_, refl, sym, ap₂, _∙_}
+use mathlib.Core.List.{List}
 use borrow.Author.Needs.{needs}
 use native.Mathlib.Omega.{arith}
 use denote.Ref.{now}
 use Rattle.rules.proofs.HoldingLaws.{ceiling-is-a-task}
-use Rattle.local.proofs.BlockingLaws.{RaisedFrom, raised-from-last, raised-from-next, raised-from-ceiling}
+use Rattle.lists.specs.Range.{behind, padded}
+use Rattle.lists.proofs.Raised.{behind-last, behind-next, raisedFrom, raised-last, raised-next, raised-all}
+use Rattle.table.specs.Limits.{most}
+use Rattle.table.specs.Grid.{countIn, accessIn, subsystemIn}
+use Rattle.local.specs.Blocking.{taskBlocking}
+use Rattle.local.proofs.BlockingLaws.{blocking-more}
 use Rattle.local.proofs.blocking.raise_by.Statement.{statement}
 use Rattle.local.proofs.blocking.raise_by.Tie as tie
 
+abbrev columnOf : List (List ℕ) → ℕ → ℕ → ℕ
+columnOf block l j = accessIn block j l
+
 abbrev Inv-loop : tie.InvT-loop
-Inv-loop block m l blockings₀ ceiling longest₀ j₀ blockings longest j = RaisedFrom m block l ceiling longest j blockings
+Inv-loop block m l blockings₀ ceiling longest₀ j₀ blockings longest j =
+    (ceiling ≤ j) × (j < countIn block) × (longest ≡ behind (columnOf block l) (countIn block) j) × (blockings ≡ padded (raisedFrom (columnOf block l) (countIn block) (taskBlocking l (subsystemIn m block)) most j) 0 most (countIn block))
 
 abbrev μ-loop : tie.MeasureT-loop
 μ-loop block m l blockings₀ ceiling longest₀ j₀ blockings longest j = j
@@ -27,11 +39,13 @@ loop-holds : tie.Need-loop-holds Inv-loop μ-loop
 loop-holds c =
     let s = c .before .before in
     let a = s .args in
-    let ceiling = c .before .inner-ceiling .ensures in
-    raised-from-last (a .m) (now (a .block)) (a .l) _ _ (now (a .blockings)) ceiling
-    (omega (arith, ceiling, c .count .ensures, ceiling-is-a-task (now (a .block)) (a .l) (a .m) (s .pre .0 .listed) (s .pre .0 .some-task)))
-    (omega (arith, c .count .ensures, s .pre .0 .some-task))
-    (s .pre .1)
+    let f = columnOf (now (a .block)) (a .l) in
+    let n = countIn (now (a .block)) in (
+      omega (arith, c .before .inner-ceiling .ensures, c .count .ensures, ceiling-is-a-task (now (a .block)) (a .l) (a .m) (s .pre .0 .listed) (s .pre .0 .some-task)),
+      omega (arith, c .count .ensures, s .pre .0 .some-task),
+      sym (behind-last f n _ (omega (arith, c .count .ensures))),
+      raised-last f n (taskBlocking (a .l) (subsystemIn (a .m) (now (a .block)))) most _ (omega (arith, c .count .ensures)) (s .pre .1),
+    )
 
 access-requires : tie.Need-access-requires Inv-loop μ-loop
 access-requires c κs = search needs
@@ -65,16 +79,19 @@ loop-again c =
     let g = c .before .before in
     let t = g .before .before in
     let k = t .before in
-    let s = k .before .before .before in
-    let a = s .args in
-    raised-from-next (a .m) (now (a .block)) (a .l) _ (k .loop .longest) (k .loop .j) (k .loop .blockings) (k .loop .inv) (s .pre .0 .listed) (t .loop-test .taken) _ _ _ _
-    (omega (arith, t .loop-test .taken)) (g .before .access .ensures) (g .longer .ensures) (c .longer2 .ensures)
+    let a = k .before .before .before .args in
+    let f = columnOf (now (a .block)) (a .l) in
+    let n = countIn (now (a .block)) in
+    let j = k .loop .j in
+    let longest = g .longer .ensures ∙ ap₂ max (k .loop .inv .2) (g .before .access .ensures) ∙ sym (behind-next f n (j - 1) j (omega (arith, t .loop-test .taken)) (k .loop .inv .1)) in
+    (omega (arith, t .loop-test .taken), omega (arith, k .loop .inv .1), longest, raised-next f n (taskBlocking (a .l) (subsystemIn (a .m) (now (a .block)))) most (j - 1) j (omega (arith, t .loop-test .taken)) (k .loop .inv .1) longest (k .loop .inv .3) refl (c .longer2 .ensures))
 
 returns : tie.Need-returns Inv-loop μ-loop
 returns c =
     let k = c .before in
-    let a = k .before .before .before .args in
-    raised-from-ceiling (a .m) (now (a .block)) (a .l) _ _ _ _ (k .loop .inv) (c .loop-test .left)
+    let s = k .before .before .before in
+    let a = s .args in
+    raised-all (columnOf (now (a .block)) (a .l)) (countIn (now (a .block))) (taskBlocking (a .l) (subsystemIn (a .m) (now (a .block)))) most (k .loop .j) _ (k .loop .inv .3) (blocking-more (a .m) (now (a .block)) (a .l) (k .loop .j) (s .pre .0 .listed) (omega (arith, c .loop-test .left, k .loop .inv .0, k .before .before .inner-ceiling .ensures)))
 
 pub raise-by-spec : {M : Type 1} → statement M
 raise-by-spec =
