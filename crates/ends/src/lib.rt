@@ -1,29 +1,30 @@
 // The jobs of one subsystem by number: how many there are, where the budget of each ends, and where each ends with a
 // resource. The rows of crate `global` go through all of them; this is for whoever asks about one. Every function here is
 // proved, and the crate assumes nothing.
-use global::Common;
-use global::interfaces;
-use global::interfaces::WIDTH;
 use least::demand_in;
 use least::ends_at;
 use least::least_after;
 use least::least_within;
 use least::round_up;
 use numbers::wide;
+use outer::Common;
+use outer::interfaces;
+use outer::interfaces::WIDTH;
 use table::Table;
 ghost use mathlib.Core.Path.{_≡_};
 ghost use Prim.Native.Nat.{_<_};
 ghost use Rattle.least.specs.Demand.{total};
 ghost use Rattle.least.specs.Search.{IsLeast};
 ghost use Rattle.least.specs.After.{afterwards, Frees};
-ghost use Rattle.global.specs.Interfaces.{interfacesIn};
-ghost use Rattle.global.specs.Blocking.{blocking};
+ghost use Rattle.outer.specs.Interfaces.{interfacesIn};
+ghost use Rattle.outer.specs.Blocking.{blocking};
+ghost use Rattle.outer.specs.Common.{commonOf};
+ghost use Rattle.outer.specs.Sound.{Sound};
 ghost use Rattle.global.specs.View.{viewOf, held};
 ghost use Rattle.global.specs.Ends.{ahead, budgetEnd, jobEnd};
 ghost use Rattle.global.specs.JobCount.{jobCount};
-ghost use Rattle.global.specs.Common.{commonOf};
 ghost use Rattle.global.specs.Computed.{Budget-over};
-ghost use Rattle.global.specs.Sound.{Sound, Counted};
+ghost use Rattle.global.specs.Sound.{Counted};
 
 // B(s), from what the rows share.
 fn blocking_in(

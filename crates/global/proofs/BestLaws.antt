@@ -8,13 +8,14 @@ use lib.Dec.{ltb}
 use borrow.Author.Tests.{lt-ltb, le-ltb}
 use Rattle.lists.specs.Range.{largestTo}
 use Rattle.lists.proofs.Over.{le-or-lt, largestTo-zero}
+use Rattle.lists.proofs.Largest.{largest-new, largest-old}
 use Rattle.global.specs.declared.responses.Best.{Best}
 use Rattle.global.specs.declared.responses.Job.{Job}
 use Rattle.global.specs.declared.responses.Worst.{Worst}
 use Rattle.global.specs.View.{View}
 use Rattle.global.specs.Response.{firstAt, jobResponse, jobResource, response, worstJob}
 use Rattle.global.specs.Computed.{bestOf, jobOf, worstOf}
-use Rattle.global.proofs.MoreRange.{largest-new, largest-old, firstAt-new, firstAt-old, firstAt-empty}
+use Rattle.global.proofs.FirstAtLaws.{firstAt-new, firstAt-old, firstAt-empty}
 
 -- Nothing is best of nothing.
 pub best-none : (f : ℕ → ℕ) → record { value = 0; at = 0 } ≡ bestOf f 0

@@ -19,7 +19,7 @@ use Rattle.least.proofs.Demand.{demand-mono}
 use Rattle.least.proofs.Search.{stands-at-floor, stands-below, least-stands, least-is-one, stands-warm}
 use Rattle.least.proofs.LeastLaws.{least-below}
 use Rattle.table.specs.Limits.{horizon}
-use Rattle.global.specs.Blocking.{numberOr}
+use Rattle.outer.specs.Blocking.{numberOr}
 use Rattle.global.specs.View.{View, cost}
 use Rattle.global.specs.Ends.{jobs, ahead, budgetEnd}
 use Rattle.global.specs.Sound.{Sound-view, Counted}

@@ -16,7 +16,7 @@ use Rattle.least.proofs.Demand.{demand-mono, demand-split, between-mono, loads-
 use Rattle.least.proofs.Search.{least-stands, stands-below, stands-warm}
 use Rattle.least.proofs.LeastLaws.{least-below}
 use Rattle.table.specs.Limits.{horizon}
-use Rattle.global.specs.Blocking.{numberOr}
+use Rattle.outer.specs.Blocking.{numberOr}
 use Rattle.global.specs.View.{View, resources, held, ceiling}
 use Rattle.global.specs.Ends.{ahead, budgetEnd, shutOut, jobEnd}
 use Rattle.global.specs.Sound.{Sound-view, Counted}

@@ -16,15 +16,15 @@ use Rattle.least.specs.Demand.{demand, demandBetween, total}
 use Rattle.least.specs.Least.{least}
 use Rattle.least.specs.Search.{IsLeast}
 use Rattle.table.specs.Limits.{horizon}
-use Rattle.global.specs.Blocking.{numberOr}
+use Rattle.outer.specs.Blocking.{numberOr}
+use Rattle.outer.specs.Leading.{led}
+use Rattle.outer.proofs.LeadingLaws.{leads-or-not, leader-of}
 use Rattle.global.specs.View.{View, resources, held, ceiling, overrun, cost}
 use Rattle.global.specs.Ends.{activePeriod, jobs, ahead, budgetEnd, shutOut, jobEnd}
 use Rattle.global.specs.Response.{firstAt, responseWith, jobResponse, jobResource, response, worstJob}
 use Rattle.global.specs.Row.{judged, rowWith, rowWithout, rowFor}
 use Rattle.global.specs.Sound.{Sound-view, Counted}
-use Rattle.global.specs.Leading.{led}
-use Rattle.global.proofs.MoreRange.{largest-led, firstAt-led, firstAt-ext, firstAt-below}
-use Rattle.global.proofs.LeadingLaws.{leads-or-not, leader-of}
+use Rattle.global.proofs.FirstAtLaws.{largest-led, firstAt-led, firstAt-ext, firstAt-below}
 use Rattle.global.proofs.ActiveLaws.{some-job}
 use Rattle.global.proofs.JobEndLaws.{jobTotal, job-end-is-least, released-before-job-end}
 

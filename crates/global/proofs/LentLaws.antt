@@ -9,18 +9,19 @@ use Rattle.lists.proofs.UpTo.{getD-padded, getD-upTo}
 use Rattle.least.specs.Search.{Loads}
 use Rattle.least.specs.After.{Frees}
 use Rattle.table.specs.Limits.{most}
-use Rattle.global.specs.declared.ceilings.Common.{Common}
-use Rattle.global.specs.Interfaces.{budgetAt, heldAt, interfacesIn}
-use Rattle.global.specs.Parts.{count, periods, costs, periodOf, costOf, freeOf}
-use Rattle.global.specs.Blocking.{outerCeiling, blocking}
+use Rattle.outer.specs.declared.ceilings.Common.{Common}
+use Rattle.outer.specs.Interfaces.{budgetAt, heldAt, interfacesIn}
+use Rattle.outer.specs.Parts.{count, periods, costs, periodOf, costOf, freeOf}
+use Rattle.outer.specs.Blocking.{outerCeiling, blocking}
 use Rattle.global.specs.View.{viewOf, resources, held, ceiling, cost}
 use Rattle.global.specs.Ends.{ahead}
-use Rattle.global.specs.Common.{commonOf}
-use Rattle.global.specs.Sound.{Sound, Sound-view, Counted}
-use Rattle.global.proofs.Slots.{some-of, few-of, few-resources-of, count-of, resources-of, budget-of-slot, holding-of-slot}
+use Rattle.outer.specs.Common.{commonOf}
+use Rattle.outer.specs.Sound.{Sound}
+use Rattle.global.specs.Sound.{Sound-view, Counted}
+use Rattle.outer.proofs.Slots.{some-of, few-of, few-resources-of, count-of, resources-of, budget-of-slot, holding-of-slot}
 use Rattle.global.proofs.ViewLaws.{view-sound, resources-seen, held-seen, ceiling-seen, cost-seen}
 use Rattle.global.proofs.BudgetEndLaws.{jobs-before-within}
-use Rattle.global.proofs.SeenLaws.{long-enough, used-length, used-part, shared-periods, shared-costs, shared-frees, shared-ceilings, shared-blockings}
+use Rattle.outer.proofs.SharedLaws.{long-enough, used-length, used-part, shared-periods, shared-costs, shared-frees, shared-ceilings, shared-blockings}
 
 -- Sound interfaces with what their rows share.
 module _ (n m : ℕ) (lines : List (List ℕ)) (c : Common) (sound : Sound (interfacesIn n m lines)) (e : c ≡ commonOf (interfacesIn n m lines)) where

@@ -1,9 +1,5 @@
--- Laws of interfaces and of steps 6 to 11.
-pub mod Slots
-pub mod CeilingLaws
-pub mod CommonLaws
-pub mod MoreRange
-pub mod BlockingLaws
+-- Laws of steps 7 to 11.
+pub mod FirstAtLaws
 pub mod ActiveLaws
 pub mod BudgetEndLaws
 pub mod WaitLaws
@@ -15,8 +11,6 @@ pub mod JobsLaws
 pub mod SkipLaws
 pub mod ResponseLaws
 pub mod RowLaws
-pub mod LeadingLaws
-pub mod EnteringLaws
 pub mod LedLaws
 pub mod SeenLaws
 pub mod RowMeaning

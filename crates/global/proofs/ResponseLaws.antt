@@ -21,7 +21,7 @@ use Rattle.global.specs.Response.{firstAt, responseWith, jobResponse, jo
 use Rattle.global.specs.Sound.{Sound-view, Counted}
 use Rattle.global.specs.Computed.{Budget-over, bestOf, jobOf}
 use Rattle.global.specs.declared.responses.Best.{Best}
-use Rattle.global.proofs.MoreRange.{firstAt-within}
+use Rattle.global.proofs.FirstAtLaws.{firstAt-within}
 use Rattle.global.proofs.ActiveLaws.{active-within}
 use Rattle.global.proofs.BudgetEndLaws.{budget-end-is-least}
 use Rattle.global.proofs.JobEndLaws.{jobConstant, jobTotal, constant-by-end, job-end-starts, job-end-from, job-end-within, job-comes-down, job-end-is-least}

@@ -12,6 +12,7 @@ use lib.Dec.{leb}
 use borrow.Author.Tests.{eqb-true, eqb-false}
 use Rattle.lists.specs.Range.{largestTo}
 use Rattle.lists.proofs.Over.{below-largest, largest-reached}
+use Rattle.lists.proofs.Largest.{first-largest}
 use Rattle.least.specs.Demand.{total}
 use Rattle.least.proofs.LeastLaws.{least-none}
 use Rattle.table.specs.Limits.{horizon}
@@ -21,7 +22,7 @@ use Rattle.global.specs.Ends.{activePeriod, jobs, jobEnd}
 use Rattle.global.specs.Response.{firstAt, responseWith, jobResponse, jobResource, response, worstJob}
 use Rattle.global.specs.Row.{judged, rowWith, rowWithout, rowFor}
 use Rattle.global.specs.Sound.{Sound-view, Counted}
-use Rattle.global.proofs.MoreRange.{first-largest, by-first, firstAt-below}
+use Rattle.global.proofs.FirstAtLaws.{by-first, firstAt-below}
 use Rattle.global.proofs.ActiveLaws.{held-at-most}
 use Rattle.global.proofs.JobEndLaws.{released-before-job-end}
 use Rattle.global.proofs.LedLaws.{some-held, response-of-some}

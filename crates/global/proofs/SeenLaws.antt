@@ -1,66 +1,30 @@
 -- What the code lends for one subsystem is its view of the interfaces, with the resources that lead. Assumes nothing.
-use Prim.Native.Nat.{ℕ, _≤_, _<_}
+use Prim.Native.Nat.{ℕ, _<_}
 use native.Mathlib.Omega.{arith}
 use mathlib.Core.Path.{_≡_, sym, ap, ap₂, _∙_}
 use mathlib.Core.List.{List}
 use mathlib.Core.Option.{Option}
 use lib.ListN.{length, getD, take}
-use lib.Seq.{length-take-le}
 use Rattle.lists.specs.Range.{upTo, padded}
 use Rattle.lists.proofs.First.{firstSuch-ext}
-use Rattle.lists.proofs.UpTo.{length-upTo, getD-upTo, upTo-ext, length-padded}
+use Rattle.lists.proofs.UpTo.{length-upTo, getD-upTo, upTo-ext}
 use Rattle.table.specs.Limits.{most}
+use Rattle.outer.specs.Interfaces.{InterfacesM, periodAt, budgetAt, heldAt, interfacesIn}
+use Rattle.outer.specs.Parts.{count, periods, costs, periodOf, budgetOf}
+use Rattle.outer.specs.Blocking.{outerCeiling, blocking}
+use Rattle.outer.specs.Leading.{beats, beatenBy, unbeaten, led, ceilingAt}
+use Rattle.outer.specs.Sound.{Sound}
+use Rattle.outer.proofs.Slots.{resources-of, period-of-slot, budget-of-slot, holding-of-slot}
+use Rattle.outer.proofs.CommonLaws.{take-padded}
 use Rattle.global.specs.declared.Row.{Row}
-use Rattle.global.specs.declared.ceilings.Common.{Common}
 use Rattle.global.specs.declared.responses.Own.{Own}
-use Rattle.global.specs.Interfaces.{InterfacesM, periodAt, budgetAt, heldAt, interfacesIn}
-use Rattle.global.specs.Parts.{count, periods, costs, periodOf, budgetOf, costOf, freeOf}
-use Rattle.global.specs.Blocking.{outerCeiling, blocking}
 use Rattle.global.specs.View.{View, viewOf, resources, held, ceiling}
 use Rattle.global.specs.Ends.{activePeriod}
 use Rattle.global.specs.Row.{rowFor, rowOf}
-use Rattle.global.specs.Common.{commonOf}
 use Rattle.global.specs.Computed.{seenBy}
-use Rattle.global.specs.Leading.{beats, beatenBy, unbeaten, led, ceilingAt}
-use Rattle.global.specs.Sound.{Sound, Sound-view}
-use Rattle.global.proofs.Slots.{count-of, resources-of, period-of-slot, budget-of-slot, holding-of-slot}
-use Rattle.global.proofs.CommonLaws.{take-padded}
+use Rattle.global.specs.Sound.{Sound-view}
 use Rattle.global.proofs.ViewLaws.{view-sound, resources-seen, held-seen, ceiling-seen}
 use Rattle.global.proofs.LedLaws.{ledView, led-sound, row-led}
-
--- The used part of an array that is filled up with 0.
-module _ (f : ℕ → ℕ) (n : ℕ) (few : n ≤ most) {a : List ℕ} (e : a ≡ padded f 0 most n) where
-  pub long-enough : n ≤ length a
-  long-enough = omega (arith, ap length e, length-padded f 0 most n few)
-
-  pub used-part : take n a ≡ upTo f n
-  used-part = ap (take n) e ∙ take-padded f n
-
--- A part of an array has the length that it is cut to.
-pub used-length : (n : ℕ) (a : List ℕ) → n ≤ length a → n ≡ length (take n a)
-used-length n a h = sym (length-take-le n a h)
-
--- The parts of what the rows share.
-module _ (n m : ℕ) (lines : List (List ℕ)) (c : Common) (e : c ≡ commonOf (interfacesIn n m lines)) where
-  pub shared-periods : c .periods ≡ padded (periodOf (interfacesIn n m lines)) 0 most n
-  unfolding commonOf
-  shared-periods = ap (λ (x : Common). x .periods) e ∙ ap (padded (periodOf (interfacesIn n m lines)) 0 most) (count-of n m lines)
-
-  pub shared-costs : c .costs ≡ padded (costOf (interfacesIn n m lines)) 0 most n
-  unfolding commonOf
-  shared-costs = ap (λ (x : Common). x .costs) e ∙ ap (padded (costOf (interfacesIn n m lines)) 0 most) (count-of n m lines)
-
-  pub shared-frees : c .frees ≡ padded (freeOf (interfacesIn n m lines)) 0 most n
-  unfolding commonOf
-  shared-frees = ap (λ (x : Common). x .frees) e ∙ ap (padded (freeOf (interfacesIn n m lines)) 0 most) (count-of n m lines)
-
-  pub shared-ceilings : c .ceilings ≡ padded (outerCeiling (interfacesIn n m lines)) 0 most m
-  unfolding commonOf interfacesIn
-  shared-ceilings = ap (λ (x : Common). x .ceilings) e
-
-  pub shared-blockings : c .blockings ≡ padded (blocking (interfacesIn n m lines)) 0 most n
-  unfolding commonOf
-  shared-blockings = ap (λ (x : Common). x .blockings) e ∙ ap (padded (blocking (interfacesIn n m lines)) 0 most) (count-of n m lines)
 
 -- Which resources lead depends on the resources in use alone.
 led-ext : (h h2 c c2 : ℕ → ℕ) (m l : ℕ) → l < m → ((j : ℕ) → j < m → h j ≡ h2 j) → ((j : ℕ) → j < m → c j ≡ c2 j) → led h c m l ≡ led h2 c2 m l

@@ -8,13 +8,14 @@ use Rattle.lists.proofs.UpTo.{length-upTo, getD-upTo}
 use Rattle.least.specs.Search.{Loads}
 use Rattle.least.specs.After.{Fit}
 use Rattle.table.specs.Limits.{most, largest}
-use Rattle.global.specs.Interfaces.{InterfacesM}
-use Rattle.global.specs.Parts.{count, periodOf, budgetOf, holdingOf, holding, costOf, periods, costs}
-use Rattle.global.specs.Blocking.{outerCeiling, blockingBy, blocking}
+use Rattle.outer.specs.Interfaces.{InterfacesM}
+use Rattle.outer.specs.Parts.{count, periodOf, budgetOf, holdingOf, holding, costOf, periods, costs}
+use Rattle.outer.specs.Blocking.{outerCeiling, blockingBy, blocking}
+use Rattle.outer.specs.Sound.{Sound}
+use Rattle.outer.proofs.CeilingLaws.{ceiling-at-most}
+use Rattle.outer.proofs.BlockingLaws.{blocking-by-at-most}
 use Rattle.global.specs.View.{viewOf, resources, held, ceiling, overrun, cost}
-use Rattle.global.specs.Sound.{Sound, Sound-view}
-use Rattle.global.proofs.CeilingLaws.{ceiling-at-most}
-use Rattle.global.proofs.BlockingLaws.{blocking-by-at-most}
+use Rattle.global.specs.Sound.{Sound-view}
 
 module _ (g : InterfacesM) (s : ℕ) where
   pub resources-seen : resources (viewOf g s) ≡ g .resources

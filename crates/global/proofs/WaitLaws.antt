@@ -20,7 +20,7 @@ use Rattle.least.proofs.ShareLaws.{standing-starts}
 use Rattle.least.proofs.LeastLaws.{least-found, least-nowhere}
 use Rattle.least.proofs.ClimbLaws.{fit-fewer, ends-at-none, ends-at-more, starts-nowhere}
 use Rattle.table.specs.Limits.{most, horizon}
-use Rattle.global.specs.Blocking.{numberOr}
+use Rattle.outer.specs.Blocking.{numberOr}
 use Rattle.global.specs.View.{View, cost}
 use Rattle.global.specs.Ends.{activePeriod, ahead, budgetEnd}
 use Rattle.global.specs.Sound.{Sound-view, Counted, First-end, Active}

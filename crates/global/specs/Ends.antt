@@ -6,7 +6,7 @@ use Rattle.least.specs.Up.{up}
 use Rattle.least.specs.Demand.{demandBetween}
 use Rattle.least.specs.Least.{least}
 use Rattle.table.specs.Limits.{horizon}
-use Rattle.global.specs.Blocking.{numberOr}
+use Rattle.outer.specs.Blocking.{numberOr}
 use Rattle.global.specs.View.{View, held, ceiling, cost}
 
 -- Step 7. L(s): the least x ≥ 1 with x = B(s) + sum over t ≤ s of Up(x, P(t)) × (Q(t) + X(t)), where one is at or below

@@ -4,7 +4,7 @@ use Prim.Native.Nat.{ℕ, suc, _-_, _*_}
 use mathlib.Core.Bool.{cond}
 use lib.Dec.{ltb}
 use Rattle.lists.specs.Range.{largestTo, firstLargest}
-use Rattle.global.specs.Blocking.{numberOr}
+use Rattle.outer.specs.Blocking.{numberOr}
 use Rattle.global.specs.View.{View, resources, held, overrun}
 use Rattle.global.specs.Ends.{budgetEnd, jobEnd}
 

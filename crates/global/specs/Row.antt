@@ -3,10 +3,10 @@ use Prim.Native.Nat.{ℕ}
 use mathlib.Core.Bool.{cond}
 use mathlib.Core.Option.{Option, none, some}
 use lib.Dec.{leb}
+use Rattle.outer.specs.Interfaces.{InterfacesM}
 use Rattle.global.specs.declared.Outcome.{Outcome}
 use Rattle.global.specs.declared.Outcome.the-variants.{Fits, Late, None}
 use Rattle.global.specs.declared.Row.{Row}
-use Rattle.global.specs.Interfaces.{InterfacesM}
 use Rattle.global.specs.View.{View, viewOf, overrun}
 use Rattle.global.specs.Ends.{activePeriod, jobs}
 use Rattle.global.specs.Response.{response, worstJob, jobResource}

@@ -1,4 +1,4 @@
--- What the rules leave of interfaces, and what follows for the view of one subsystem: the facts that steps 6 to 11 rest on.
+-- What sound interfaces give for the view of one subsystem, and what is known of its jobs: the facts that steps 7 to 11 rest on.
 -- Assumes nothing.
 use Prim.Native.Nat.{ℕ, _+_, _-_, _^_, _≤_, _<_}
 use mathlib.Core.Path.{_≡_}
@@ -10,22 +10,11 @@ use lib.ListN.{length, getD}
 use Rattle.least.specs.Demand.{total}
 use Rattle.least.specs.Search.{IsLeast}
 use Rattle.least.specs.After.{Fit, EndsAt}
-use Rattle.table.specs.Limits.{most, largest, horizon}
-use Rattle.global.specs.Interfaces.{InterfacesM}
-use Rattle.global.specs.Parts.{count, periodOf, budgetOf, holding}
+use Rattle.table.specs.Limits.{most, horizon}
 use Rattle.global.specs.View.{View, resources, held, ceiling, cost}
 use Rattle.global.specs.Ends.{activePeriod, jobs, ahead, budgetEnd}
 
--- Interfaces of an admitted table: counts within the limit, 1 ≤ Q, and Q + X ≤ P ≤ 1,000,000.
-pub record Sound (g : InterfacesM) : Type 0 where
-  pub some-subsystem : 1 ≤ count g
-  pub few-subsystems : count g ≤ most
-  pub few-resources : g .resources ≤ most
-  pub period-small : (s : ℕ) → s < count g → periodOf g s ≤ largest
-  pub budget-pos : (s : ℕ) → s < count g → 1 ≤ budgetOf g s
-  pub fits : (s : ℕ) → s < count g → budgetOf g s + holding g s ≤ periodOf g s
-
--- The same for the view of one subsystem.
+-- What sound interfaces (crate `outer`) come to for the view of one subsystem.
 pub record Sound-view (v : View) : Type 0 where
   pub few : v .place < most
   pub fit : Fit (v .periods) (v .costs) (v .place + 1)

@@ -4,9 +4,9 @@ use Prim.Native.Nat.{ℕ, _+_}
 use mathlib.Core.List.{List}
 use lib.ListN.{length, getD}
 use Rattle.lists.specs.Range.{largestTo, upTo}
-use Rattle.global.specs.Interfaces.{InterfacesM}
-use Rattle.global.specs.Parts.{periods, costs, periodOf, budgetOf, holdingOf}
-use Rattle.global.specs.Blocking.{outerCeiling, blocking}
+use Rattle.outer.specs.Interfaces.{InterfacesM}
+use Rattle.outer.specs.Parts.{periods, costs, periodOf, budgetOf, holdingOf}
+use Rattle.outer.specs.Blocking.{outerCeiling, blocking}
 
 pub record View : Type 0 where
   -- of each subsystem: P(t), and Q(t) + X(t)

@@ -1,18 +1,9 @@
-// Steps 6 to 11 over interfaces alone: outer ceilings, blocking, active period, jobs, budget ends, job ends, responses and
-// rows. Crate `ends` asks about single jobs. An interface is all that the other subsystems see of one: its period, its budget
-// and how long it may hold each resource. N interfaces over M resources go by reference, as lines of numbers (module
-// `interfaces`), with N and M beside them; a lower line is a higher priority. Every function here is proved, and the crate
+// Steps 7 to 11 over interfaces alone: active period, jobs, budget ends, job ends, responses and rows. Interfaces, their outer
+// ceilings and blocking are crate `outer`'s; crate `ends` asks about single jobs. Every function here is proved, and the crate
 // assumes nothing. Indices count from 0; document 01 counts from 1.
-mod blocking;
-mod ceilings;
-pub mod interfaces;
-mod leading;
 mod responses;
 mod rows;
 
-pub use ceilings::Common;
-pub use ceilings::fitting_of;
-pub use ceilings::in_common;
 pub use rows::row_of;
 
 // How a row ends: with its response R within the period, or beyond it, or with none.

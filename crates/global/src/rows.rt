@@ -1,17 +1,17 @@
 // The row of a subsystem.
 use crate::Outcome;
 use crate::Row;
-use crate::ceilings::Common;
-use crate::interfaces::WIDTH;
-use crate::interfaces::budget;
-use crate::interfaces::period;
-use crate::leading::leading;
 use crate::responses::Own;
 use crate::responses::largest_response;
 use least::least_after;
 use least::round_up;
 use least::spare_of;
 use least::standing;
+use outer::Common;
+use outer::interfaces::WIDTH;
+use outer::interfaces::budget;
+use outer::interfaces::period;
+use outer::leading::leading;
 use table::Table;
 ghost use mathlib.Core.Path.{_≡_};
 ghost use mathlib.Core.Option.{none, some};
@@ -22,13 +22,14 @@ ghost use Rattle.least.specs.After.{Frees, Starts};
 ghost use Rattle.table.specs.Limits.{most};
 ghost use Rattle.least.specs.Share.{Fitting};
 ghost use Prim.Native.Nat.{ℕ, _+_, _-_, _≤_, _<_};
-ghost use Rattle.global.specs.Interfaces.{interfacesIn};
+ghost use Rattle.outer.specs.Interfaces.{interfacesIn};
 ghost use Rattle.global.specs.declared.Outcome.the-variants.{None};
 ghost use Rattle.global.specs.Ends.{activePeriod};
 ghost use Rattle.global.specs.Row.{judged, rowFor, rowOf};
-ghost use Rattle.global.specs.Common.{commonOf};
+ghost use Rattle.outer.specs.Common.{commonOf};
 ghost use Rattle.global.specs.Computed.{seenBy};
-ghost use Rattle.global.specs.Sound.{Sound, Sound-view, First-end, Active};
+ghost use Rattle.outer.specs.Sound.{Sound};
+ghost use Rattle.global.specs.Sound.{Sound-view, First-end, Active};
 
 // A row fits where its response is within the period, else it is late.
 fn judge(period: u32, response: u32) -> Outcome

@@ -24,12 +24,12 @@ use Rattle.rules.specs.declared.Judged.{Judged}
 use Rattle.rules.specs.declared.Judged.the-variants.{Admitted}
 use Rattle.rules.specs.Rules.{judgeOf}
 use Rattle.rules.specs.Holding.{resourceHolding}
+use Rattle.outer.specs.Interfaces.{InterfacesM}
+use Rattle.outer.specs.Parts.{periods, costs}
+use Rattle.outer.specs.Blocking.{blocking as step6}
 use Rattle.global.specs.declared.Outcome.{Outcome}
 use Rattle.global.specs.declared.Outcome.the-variants.{Fits, Late, None}
 use Rattle.global.specs.declared.Row.{Row}
-use Rattle.global.specs.Interfaces.{InterfacesM}
-use Rattle.global.specs.Parts.{periods, costs}
-use Rattle.global.specs.Blocking.{blocking as step6}
 use Rattle.global.specs.View.{View, viewOf, resources, held as heldIn, overrun as rowOverrun}
 use Rattle.global.specs.Ends.{activePeriod, jobs, budgetEnd, jobEnd}
 use Rattle.global.specs.Response.{response as step11, worstJob, jobResource, jobResponse, responseWith}

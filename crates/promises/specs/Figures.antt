@@ -10,9 +10,9 @@ use Rattle.lists.specs.Range.{sumTo, largestTo, allTo, firstOf, firstSuch, firs
 use Rattle.least.specs.Up.{up}
 use Rattle.least.specs.Demand.{loadIn, demand, demandBetween, total}
 use Rattle.least.specs.Least.{solves, least}
-use Rattle.global.specs.Interfaces.{InterfacesM}
-use Rattle.global.specs.Parts.{count, interfaceOf, periodOf, budgetOf, holdingOf, holding as overrunOf, costOf, periods, costs}
-use Rattle.global.specs.Blocking.{accesses, outerCeiling, reaching, blockingBy, blocking}
+use Rattle.outer.specs.Interfaces.{InterfacesM}
+use Rattle.outer.specs.Parts.{count, interfaceOf, periodOf, budgetOf, holdingOf, holding as overrunOf, costOf, periods, costs}
+use Rattle.outer.specs.Blocking.{accesses, outerCeiling, reaching, blockingBy, blocking}
 use Rattle.global.specs.View.{View, viewOf, held, ceiling, overrun, cost}
 use Rattle.global.specs.Ends.{activePeriod, jobs, ahead, budgetEnd, shutOut, jobEnd}
 use Rattle.global.specs.Response.{firstAt, responseWith, jobResponse, jobResource, response, worstJob}

@@ -17,9 +17,9 @@ use Rattle.rules.specs.Admitted.{SoundSubsystem, SoundSystem}
 use Rattle.rules.specs.Holding.{resourceHolding, holding}
 use Rattle.rules.specs.Held.{holdingsAt, HeldIn}
 use Rattle.rules.proofs.HoldingLaws.{held-of-block}
-use Rattle.global.specs.Interfaces.{InterfaceM, InterfacesM, periodAt, budgetAt, heldAt, interfaceAt as lineAt, interfacesIn}
-use Rattle.global.specs.Sound.{Sound}
-use Rattle.global.proofs.Slots.{interface-is, interfaces-are}
+use Rattle.outer.specs.Interfaces.{InterfaceM, InterfacesM, periodAt, budgetAt, heldAt, interfaceAt as lineAt, interfacesIn}
+use Rattle.outer.specs.Sound.{Sound}
+use Rattle.outer.proofs.Slots.{interface-is, interfaces-are}
 use Rattle.report.specs.Interfaces.{interfaceFrom, interfaceAt, interfacesFrom}
 use Rattle.report.specs.Slots.{SoundSlot, Shows}
 use Rattle.report.proofs.SoundLaws.{interfaces-sound}

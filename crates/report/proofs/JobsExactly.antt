@@ -13,7 +13,7 @@ use Rattle.rules.specs.declared.Judged.{Judged}
 use Rattle.rules.specs.declared.Judged.the-variants.{Admitted, Refused}
 use Rattle.rules.specs.Holding.{resourceHolding}
 use Rattle.rules.specs.Rules.{judgeOf}
-use Rattle.global.specs.Parts.{count}
+use Rattle.outer.specs.Parts.{count}
 use Rattle.global.specs.View.{viewOf, resources, held}
 use Rattle.global.specs.Ends.{budgetEnd, jobEnd}
 use Rattle.global.specs.JobCount.{jobCount}

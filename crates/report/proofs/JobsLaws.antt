@@ -10,7 +10,7 @@ use Rattle.rules.specs.declared.Judged.the-variants.{Admitted, Refused}
 use Rattle.rules.specs.declared.Rule.{Rule}
 use Rattle.rules.specs.declared.Place.{Place}
 use Rattle.rules.specs.Rules.{judgeOf}
-use Rattle.global.specs.Parts.{count}
+use Rattle.outer.specs.Parts.{count}
 use Rattle.global.specs.View.{View, viewOf, resources, held}
 use Rattle.global.specs.Ends.{budgetEnd, jobEnd}
 use Rattle.global.specs.JobCount.{jobCount}

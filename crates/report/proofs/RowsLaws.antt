@@ -16,11 +16,11 @@ use Rattle.rules.specs.Admitted.{SoundSubsystem, SoundSystem}
 use Rattle.rules.specs.Holding.{holding}
 use Rattle.local.specs.Passing.{firstFailing, givingEnd}
 use Rattle.local.specs.Ready.{Ready}
+use Rattle.outer.specs.declared.ceilings.Common.{Common}
+use Rattle.outer.specs.Interfaces.{InterfacesM}
+use Rattle.outer.specs.Parts.{count, costOf}
+use Rattle.outer.specs.Common.{commonOf}
 use Rattle.global.specs.declared.Row.{Row}
-use Rattle.global.specs.declared.ceilings.Common.{Common}
-use Rattle.global.specs.Interfaces.{InterfacesM}
-use Rattle.global.specs.Parts.{count, costOf}
-use Rattle.global.specs.Common.{commonOf}
 use Rattle.global.specs.Row.{rowOf}
 use Rattle.report.specs.Interfaces.{interfacesFrom}
 use Rattle.report.specs.Slots.{SoundSlot}

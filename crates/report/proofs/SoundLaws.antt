@@ -10,9 +10,9 @@ use Rattle.table.specs.Meaning.{SubsystemM, System}
 use Rattle.table.specs.Parts.{subsystemCount, subsystemOf}
 use Rattle.rules.specs.Admitted.{SoundSubsystem, SoundSystem}
 use Rattle.rules.specs.Holding.{resourceHolding, holding}
-use Rattle.global.specs.Interfaces.{InterfaceM, InterfacesM}
-use Rattle.global.specs.Parts.{noInterface, count, interfaceOf, periodOf, budgetOf, holdingOf, holding as overrunOf}
-use Rattle.global.specs.Sound.{Sound}
+use Rattle.outer.specs.Interfaces.{InterfaceM, InterfacesM}
+use Rattle.outer.specs.Parts.{noInterface, count, interfaceOf, periodOf, budgetOf, holdingOf, holding as overrunOf}
+use Rattle.outer.specs.Sound.{Sound}
 use Rattle.report.specs.Interfaces.{interfaceFrom, interfaceAt, interfacesFrom}
 
 module _ (sys : System) where

@@ -5,7 +5,7 @@ use Rattle.lists.specs.Range.{upTo}
 use Rattle.table.specs.Meaning.{SubsystemM, System}
 use Rattle.table.specs.Parts.{subsystemCount, subsystemOf}
 use Rattle.rules.specs.Holding.{resourceHolding}
-use Rattle.global.specs.Interfaces.{InterfaceM, InterfacesM}
+use Rattle.outer.specs.Interfaces.{InterfaceM, InterfacesM}
 
 -- P, Q and X(s, l) for each of m resources.
 unfoldable pub interfaceFrom : ℕ → SubsystemM → InterfaceM

@@ -11,8 +11,8 @@ use Rattle.rules.specs.declared.Judged.{Judged}
 use Rattle.rules.specs.declared.Judged.the-variants.{Admitted, Refused}
 use Rattle.rules.specs.Rules.{judgeOf}
 use Rattle.rules.specs.Holding.{resourceHolding}
-use Rattle.global.specs.Interfaces.{InterfacesM}
-use Rattle.global.specs.Parts.{count}
+use Rattle.outer.specs.Interfaces.{InterfacesM}
+use Rattle.outer.specs.Parts.{count}
 use Rattle.global.specs.View.{View, viewOf, held}
 use Rattle.global.specs.Ends.{budgetEnd, jobEnd}
 use Rattle.global.specs.JobCount.{jobCount}

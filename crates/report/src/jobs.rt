@@ -5,18 +5,18 @@ ghost use Rattle.table.specs.Meaning.{meaning};
 ghost use Rattle.table.specs.Grid.{systemIn};
 ghost use Rattle.rules.specs.Held.{HeldIn};
 ghost use Rattle.rules.specs.Admitted.{SoundSystem};
-ghost use Rattle.global.specs.Interfaces.{interfacesIn};
+ghost use Rattle.outer.specs.Interfaces.{interfacesIn};
+ghost use Rattle.outer.specs.Common.{commonOf};
+ghost use Rattle.outer.specs.Sound.{Sound};
 ghost use Rattle.global.specs.View.{viewOf};
-ghost use Rattle.global.specs.Common.{commonOf};
-ghost use Rattle.global.specs.Sound.{Sound};
 ghost use Rattle.rules.specs.declared.Judged.the-variants.{Admitted};
 ghost use Rattle.rules.specs.Rules.{countsJudged};
 ghost use Rattle.report.specs.Jobs.{endOf, jobEndOf};
 use crate::interface::interfaces_of;
-use global::Common;
-use global::interfaces::WIDTH;
-use global::interfaces::held;
 use numbers::index;
+use outer::Common;
+use outer::interfaces::WIDTH;
+use outer::interfaces::held;
 use rules::Judged;
 use rules::judging::judge_counts;
 use rules::judging::judge_grid;
@@ -85,7 +85,7 @@ fn end_in_grid(
     }
     let mut lines = [[0u32; WIDTH]; Table::MOST];
     interfaces_of(grid, n, m, &holdings, &mut lines);
-    let common = global::in_common(&lines, n, m);
+    let common = outer::in_common(&lines, n, m);
     end_of(&lines, n, m, common, s - 1, k, l)
 }
 

@@ -9,8 +9,8 @@ ghost use Rattle.report.specs.Report.{noRow, rowAt};
 use crate::interface::interfaces_of;
 use global::Outcome;
 use global::Row;
-use global::interfaces::WIDTH;
 use local::first_failing_task;
+use outer::interfaces::WIDTH;
 use table::Table;
 use table::grid::BLOCK;
 use table::grid::LINE;
@@ -47,8 +47,8 @@ pub fn rows_of(
 {
     let mut lines = [[0u32; WIDTH]; Table::MOST];
     interfaces_of(grid, n, m, holdings, &mut lines);
-    let common = global::in_common(&lines, n, m);
-    let fits = global::fitting_of(common, n);
+    let common = outer::in_common(&lines, n, m);
+    let fits = outer::fitting_of(common, n);
     let costs = common.costs;
     let mut rows = [no_row(); Table::MOST];
     let mut s = 0;

@@ -5,7 +5,7 @@ use mathlib.Core.Path.{ap₂, _∙_}
 use denote.Ref.{now}
 use borrow.Author.Needs.{needs}
 use Rattle.table.specs.Limits.{most}
-use Rattle.global.proofs.Slots.{few-of}
+use Rattle.outer.proofs.Slots.{few-of}
 use Rattle.global.proofs.ActiveLaws.{active-within}
 use Rattle.global.proofs.LentLaws.{lent-sound, ahead-lent, jobs-before}
 use Rattle.ends.proofs.ahead_of_job.Statement.{statement}

@@ -4,10 +4,10 @@ use mathlib.Core.Path.{_≡_}
 use lib.ListN.{length, take}
 use denote.Ref.{now}
 use Rattle.least.specs.After.{Frees}
-use Rattle.global.specs.Interfaces.{interfacesIn}
+use Rattle.outer.specs.Interfaces.{interfacesIn}
+use Rattle.outer.proofs.SharedLaws.{used-length}
 use Rattle.global.specs.View.{viewOf}
 use Rattle.global.specs.Sound.{Sound-view}
-use Rattle.global.proofs.SeenLaws.{used-length}
 use Rattle.global.proofs.LentLaws as lent
 use Rattle.global.proofs.EndsLaws.{ahead-small, budget-lent, budget-at}
 use native.Mathlib.Omega.{arith}

@@ -8,11 +8,11 @@ use denote.Ref.{now}
 use borrow.Author.Needs.{needs}
 use Rattle.least.specs.After.{Frees}
 use Rattle.table.specs.Limits.{most}
-use Rattle.global.specs.Interfaces.{interfacesIn}
+use Rattle.outer.specs.Interfaces.{interfacesIn}
+use Rattle.outer.proofs.Slots.{few-of, few-resources-of}
+use Rattle.outer.proofs.SharedLaws.{used-length}
 use Rattle.global.specs.View.{viewOf}
 use Rattle.global.specs.Sound.{Sound-view}
-use Rattle.global.proofs.Slots.{few-of, few-resources-of}
-use Rattle.global.proofs.SeenLaws.{used-length}
 use Rattle.global.proofs.LentLaws as lent
 use Rattle.global.proofs.WaitLaws.{frees-fewer}
 use Rattle.global.proofs.EndsLaws.{after-lent, job-at}

@@ -9,12 +9,12 @@ use Rattle.least.specs.Demand.{demand}
 use Rattle.least.specs.After.{Fit, Frees}
 use Rattle.least.proofs.ClimbLaws.{fit-periods, starts-nowhere}
 use Rattle.table.specs.Limits.{most}
-use Rattle.global.specs.Interfaces.{interfacesIn}
+use Rattle.outer.specs.Interfaces.{interfacesIn}
+use Rattle.outer.proofs.Slots.{few-of}
+use Rattle.outer.proofs.SharedLaws.{used-length}
 use Rattle.global.specs.View.{View, viewOf}
 use Rattle.global.specs.Sound.{Sound-view, Active}
-use Rattle.global.proofs.Slots.{few-of}
 use Rattle.global.proofs.ActiveLaws.{active-from, period-pos}
-use Rattle.global.proofs.SeenLaws.{used-length}
 use Rattle.global.proofs.LentLaws as lent
 use Rattle.global.proofs.EndsLaws.{once-fits, active-lent, active-at, jobs-with, jobs-without}
 use native.Mathlib.Omega.{arith}

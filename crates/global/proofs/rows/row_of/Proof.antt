@@ -6,12 +6,13 @@ use lib.ListN.{length, take}
 use denote.Ref.{now}
 use Rattle.lists.specs.Range.{upTo}
 use Rattle.table.specs.Limits.{most}
-use Rattle.global.specs.Interfaces.{interfacesIn}
-use Rattle.global.specs.Parts.{count, periods, costs}
-use Rattle.global.specs.Blocking.{outerCeiling}
+use Rattle.outer.specs.Interfaces.{interfacesIn}
+use Rattle.outer.specs.Parts.{count, periods, costs}
+use Rattle.outer.specs.Blocking.{outerCeiling}
 use Rattle.global.specs.View.{viewOf}
-use Rattle.global.proofs.Slots.{few-of, few-resources-of, resources-of}
-use Rattle.global.proofs.SeenLaws.{long-enough, used-length, led-part, own-is, seen-sound, seen-row}
+use Rattle.outer.proofs.Slots.{few-of, few-resources-of, resources-of}
+use Rattle.outer.proofs.SharedLaws.{long-enough, used-length}
+use Rattle.global.proofs.SeenLaws.{led-part, own-is, seen-sound, seen-row}
 use Rattle.global.proofs.RowLaws.{never-active}
 use Rattle.global.proofs.LentLaws as lent
 use Rattle.global.proofs.rows.row_of.Statement.{statement}

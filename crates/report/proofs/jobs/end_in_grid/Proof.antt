@@ -7,7 +7,8 @@ use mathlib.Core.Path.{refl, sym, ap, _∙_}
 use Rattle.table.specs.Grid.{systemIn}
 use Rattle.table.proofs.GridLaws.{count-of-grid}
 use Rattle.rules.proofs.Sound.{admitted-is-sound}
-use Rattle.global.specs.Interfaces.{InterfacesM}
+use Rattle.outer.specs.Interfaces.{InterfacesM}
+use Rattle.outer.proofs.in_common.Reads as in-common-reads
 use Rattle.global.specs.View.{viewOf}
 use Rattle.report.specs.Jobs.{endOf}
 use Rattle.report.proofs.SoundLaws.{count-of-interfaces}
@@ -17,7 +18,6 @@ use Rattle.report.proofs.jobs.end_in_grid.Statement.{statement}
 use Rattle.report.proofs.jobs.end_in_grid.Tie as tie
 use Rattle.report.proofs.jobs.end_in_grid.Reads as reads
 use Rattle.report.proofs.jobs.end_in_grid.Lts as lts
-use Rattle.global.proofs.in_common.Reads as in-common-reads
 use Rattle.report.proofs.interface.interfaces_of.Reads as interfaces-of-reads
 use Rattle.report.proofs.jobs.end_of.Reads as end-of-reads
 use Rattle.rules.proofs.judging.judge_grid.Reads as judge-grid-reads

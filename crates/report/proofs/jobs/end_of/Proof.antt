@@ -5,9 +5,9 @@ use native.Mathlib.Omega.{arith}
 use mathlib.Core.Path.{_≡_, sym, _∙_}
 use borrow.Author.Needs.{needs}
 use Rattle.table.specs.Limits.{most}
-use Rattle.global.specs.Interfaces.{heldAt, interfacesIn}
+use Rattle.outer.specs.Interfaces.{heldAt, interfacesIn}
+use Rattle.outer.proofs.Slots.{few-of, few-resources-of, resources-of}
 use Rattle.global.specs.View.{viewOf, resources, held}
-use Rattle.global.proofs.Slots.{few-of, few-resources-of, resources-of}
 use Rattle.global.proofs.ViewLaws.{resources-seen}
 use Rattle.global.proofs.LentLaws.{held-lent}
 use Rattle.global.proofs.EndsLaws.{counted-below}
