@@ -15,7 +15,7 @@ use Rattle.outer.specs.Parts.{count, periods, costs, periodOf, costOf, freeOf}
 use Rattle.outer.specs.Blocking.{outerCeiling, blocking}
 use Rattle.global.specs.View.{viewOf, resources, held, ceiling, cost}
 use Rattle.global.specs.Ends.{ahead}
-use Rattle.outer.specs.Common.{commonOf}
+use Rattle.outer.specs.Common.{commonOf, Lent}
 use Rattle.outer.specs.Sound.{Sound}
 use Rattle.global.specs.Sound.{Sound-view, Counted}
 use Rattle.outer.proofs.Slots.{some-of, few-of, few-resources-of, count-of, resources-of, budget-of-slot, holding-of-slot}
@@ -42,6 +42,17 @@ module _ (n m : ℕ) (lines : List (List ℕ)) (c : Common) (sound : Sound (inte
 
   pub costs-used : take n (c .costs) ≡ upTo (costOf (interfacesIn n m lines)) n
   costs-used = used-part _ _ (few-of n m lines sound) (shared-costs n m lines c e)
+
+  -- What a row is lent.
+  pub parts-lent : Lent (interfacesIn n m lines) (take n (c .periods)) (take n (c .costs)) (take m (c .ceilings))
+  unfolding periods costs interfacesIn
+  parts-lent =
+      record {
+        periods-are =
+            used-part _ _ (few-of n m lines sound) (shared-periods n m lines c e) ∙ ap (upTo (periodOf (interfacesIn n m lines))) (sym (count-of n m lines));
+        costs-are = costs-used ∙ ap (upTo (costOf (interfacesIn n m lines))) (sym (count-of n m lines));
+        ceilings-are = ceilings-used;
+      }
 
   module _ (s : ℕ) where
     pub periods-lent : take n (c .periods) ≡ viewOf (interfacesIn n m lines) s .periods

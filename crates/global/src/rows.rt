@@ -7,7 +7,6 @@ use least::least_after;
 use least::round_up;
 use least::spare_of;
 use least::standing;
-use outer::Common;
 use outer::interfaces::WIDTH;
 use outer::interfaces::budget;
 use outer::interfaces::period;
@@ -15,7 +14,6 @@ use outer::leading::leading;
 use table::Table;
 ghost use mathlib.Core.Path.{_≡_};
 ghost use mathlib.Core.Option.{none, some};
-ghost use lib.ListN.{take};
 ghost use Rattle.least.specs.Demand.{total};
 ghost use Rattle.least.specs.Search.{Loads, reach};
 ghost use Rattle.least.specs.After.{Frees, Starts};
@@ -26,7 +24,8 @@ ghost use Rattle.outer.specs.Interfaces.{interfacesIn};
 ghost use Rattle.global.specs.declared.Outcome.the-variants.{None};
 ghost use Rattle.global.specs.Ends.{activePeriod};
 ghost use Rattle.global.specs.Row.{judged, rowFor, rowOf};
-ghost use Rattle.outer.specs.Common.{commonOf};
+ghost use Rattle.outer.specs.Blocking.{blocking};
+ghost use Rattle.outer.specs.Common.{Lent};
 ghost use Rattle.global.specs.Computed.{seenBy};
 ghost use Rattle.outer.specs.Sound.{Sound};
 ghost use Rattle.global.specs.Sound.{Sound-view, First-end, Active};
@@ -212,41 +211,40 @@ fn row_seen(
     )
 }
 
-// The row of subsystem s, with the number of its first failing task, 0 for none. `common` is what all rows share, and the first
-// `fits` subsystems ask for no more than every tick has.
+// The row of subsystem s, with the number of its first failing task, 0 for none. What all rows share is lent, since a struct would be
+// copied for each row; `blocked` is B(s), and the first `fits` subsystems ask for no more than every tick has.
 pub fn row_of(
     lines: &[[u32; WIDTH]; Table::MOST],
     n: usize,
     m: usize,
-    common: Common,
+    periods: &[u32],
+    costs: &[u32],
+    frees: &[u32],
+    ceilings: &[usize],
+    blocked: u32,
     fits: usize,
     s: usize,
     failing: u32,
 ) -> Row
-    requires { ⌜ Sound (interfacesIn n m (now lines)) ⌝ }
-    requires { ⌜ common ≡ commonOf (interfacesIn n m (now lines)) ⌝ }
-    requires { ⌜ Fitting (take n (common .periods)) (take n (common .costs)) n fits ⌝ }
-    requires { ⌜ s < n ⌝ }
+    requires { ⌜ Sound (interfacesIn n m (now lines)) × (s < n) ⌝ }
+    requires { ⌜ Lent (interfacesIn n m (now lines)) (now periods) (now costs) (now ceilings) ⌝ }
+    requires { ⌜ Frees (now periods) (now costs) (now frees) (s + 1) ⌝ }
+    requires { ⌜ (blocked ≡ blocking (interfacesIn n m (now lines)) s) × Fitting (now periods) (now costs) n fits ⌝ }
     ensures { λ r. ⌜ r ≡ rowOf (interfacesIn n m (now (lines .entry))) s failing ⌝ }
 {
-    let periods = common.periods;
-    let costs = common.costs;
-    let frees = common.frees;
-    let ceilings = common.ceilings;
-    let blockings = common.blockings;
-    let held = leading(lines, s, &ceilings[..m]);
+    let held = leading(lines, s, ceilings);
     let own = Own {
         place: s,
         period: period(lines, s),
         budget: budget(lines, s),
-        blocking: blockings[s],
+        blocking: blocked,
     };
     row_seen(
-        &periods[..n],
-        &costs[..n],
-        &frees[..n],
+        periods,
+        costs,
+        frees,
         &held[..m],
-        &ceilings[..m],
+        ceilings,
         own,
         failing,
         fits,
