@@ -3,6 +3,7 @@ pub mod FirstAtLaws
 pub mod ActiveLaws
 pub mod BudgetEndLaws
 pub mod WaitLaws
+pub mod OnTheWayLaws
 pub mod JobEndLaws
 pub mod ViewLaws
 pub mod AfterLaws

@@ -61,7 +61,7 @@ fn better(best: Best, value: u32, at: usize) -> Best
 }
 
 // The worse of the worst job so far and a later one: the earlier stays where they are equal.
-fn worse(worst: Worst, job: Job, k: u32) -> Worst
+pub(crate) fn worse(worst: Worst, job: Job, k: u32) -> Worst
     ensures { λ r. ⌜ r ≡ cond (ltb (worst .response) (job .response)) (record { response = job .response; job = k; resource = job .resource }) worst ⌝ }
 {
     if worst.response < job.response {

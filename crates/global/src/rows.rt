@@ -1,6 +1,7 @@
 // The row of a subsystem.
 use crate::Outcome;
 use crate::Row;
+use crate::budgets::row_by_budgets;
 use crate::responses::Own;
 use crate::responses::largest_response;
 use least::least_after;
@@ -31,7 +32,7 @@ ghost use Rattle.outer.specs.Sound.{Sound};
 ghost use Rattle.global.specs.Sound.{Sound-view, First-end, Active};
 
 // A row fits where its response is within the period, else it is late.
-fn judge(period: u32, response: u32) -> Outcome
+pub(crate) fn judge(period: u32, response: u32) -> Outcome
     ensures { λ r. ⌜ r ≡ judged period response ⌝ }
 {
     if response <= period {
@@ -87,7 +88,7 @@ fn active_row(
 }
 
 // The row without an active period: X and B stand and the rest is 0.
-fn row_without(own: Own, cost: u32, failing: u32) -> Row
+pub(crate) fn row_without(own: Own, cost: u32, failing: u32) -> Row
     requires { ⌜ own .budget ≤ cost ⌝ }
     ensures { λ r. ⌜ r ≡ record { holding = cost - own .budget; failing = failing; blocking = own .blocking; active = 0; jobs = 0; job = 0; resource = 0; outcome = None } ⌝ }
 {
@@ -156,7 +157,8 @@ fn active_from(
 }
 
 // The row from what the subsystem has before it. Only the first `fits` subsystems ask for no more than every tick has; for one
-// behind them nothing is searched. Else the first budget end is, and the active period from there.
+// behind them nothing is searched. Else the first budget end is, and the active period from there; where nothing is held, that is
+// found on the way, unless the first budget ends many periods late: then one search passes over them all.
 fn row_seen(
     periods: &[u32],
     costs: &[u32],
@@ -192,6 +194,21 @@ fn row_seen(
     );
     if Table::HORIZON < first {
         return row_without(own, cost, failing);
+    }
+    if cost == own.budget {
+        if first / 4 <= own.period {
+            return row_by_budgets(
+                periods,
+                costs,
+                frees,
+                holdings,
+                ceilings,
+                own,
+                failing,
+                first,
+                ends,
+            );
+        }
     }
     let active = active_from(periods, costs, frees, holdings, ceilings, own, first, ends);
     if Table::HORIZON < active {

@@ -1,5 +1,5 @@
 -- `global::rows::row_seen` meets its contract: it is known that there is no active period, or the first search finds no budget end,
--- or the second no active period, or the row has one. Assumes nothing.
+-- or nothing is held, or the second search finds no active period, or the row has one. Assumes nothing.
 use mathlib.Core.Path.{sym, ap, _∙_}
 use Rattle.global.specs.Row.{rowFor}
 use Rattle.global.proofs.RowLaws.{budget-below, overrun-computed, row-without}
@@ -10,78 +10,75 @@ use Rattle.global.proofs.rows.row_seen.Statement.{statement}
 use Rattle.global.proofs.rows.row_seen.Tie as tie
 use Rattle.global.proofs.rows.row_seen.Reads as reads
 use Rattle.global.proofs.rows.row_seen.Lts as lts
+use Rattle.global.proofs.budgets.row_by_budgets.Reads as row-by-budgets-reads
 use Rattle.global.proofs.rows.active_from.Reads as active-from-reads
 use Rattle.global.proofs.rows.active_row.Reads as active-row-reads
 use Rattle.global.proofs.rows.row_without.Reads as row-without-reads
 use Rattle.least.proofs.least_after.Reads as least-after-reads
 
--- src/rows.rt:132:16
 mul-cost : tie.Need-mul-cost
 mul-cost c = search needs
 
--- src/rows.rt:132:16
 shared-slice-read-cost : tie.Need-shared-slice-read-cost
 shared-slice-read-cost c = search needs
 
--- src/rows.rt:134:9
 row-without-requires : tie.Need-row-without-requires
 row-without-requires c κs = budget-below _ (c .before .before .before .before .before .before .before .pre .0)
 
--- src/rows.rt:134:9
 returns : tie.Need-returns
 returns c =
     let s = c .before .before .before .before .before .before .before .before in
     c .row-without .ensures ∙ row-without _ (s .args .failing) (overrun-computed _ (s .pre .0)) (s .pre .1 .0 (c .before .if1 .taken))
 
--- src/rows.rt:137:17
 add-ahead : tie.Need-add-ahead
 add-ahead c = record { fits = omega (arith, first-small _ (c .before .before .before .before .before .before .before .before .pre .0)) }
 
--- src/rows.rt:138:9
 least-after-requires : tie.Need-least-after-requires
 least-after-requires c κs =
     let s = c .before .before .before .before .before .before .before .before .before in
     (after-none _ (s .pre .0) 0 (first-ahead _ (s .pre .0)) (first-small _ (s .pre .0)) (s .pre .1 .1), omega arith)
 
--- src/rows.rt:140:9
 row-without-requires-2 : tie.Need-row-without-requires-2
 row-without-requires-2 c κs = budget-below _ (c .before .before .before .before .before .before .before .before .before .before .before .pre .0)
 
--- src/rows.rt:140:9
 returns-2 : tie.Need-returns-2
 returns-2 c =
     let s = c .before .before .before .before .before .before .before .before .before .before .before .before in
     c .row-without2 .ensures ∙ row-without _ (s .args .failing) (overrun-computed _ (s .pre .0)) (first-beyond _ (s .pre .0) (c .before .before .least-after .ensures .0) (c .before .if2 .taken))
 
--- src/rows.rt:142:9
+row-by-budgets-requires : tie.Need-row-by-budgets-requires
+row-by-budgets-requires c κs =
+    let s = c .before .before .before .before .before .before .before .before .before .before .before .before .before .before .before in
+    let f = c .before .before .before .before .before .least-after .ensures in
+    (s .pre .0, (c .before .before .if3 .taken, (first-end _ (s .pre .0) (f .0) (omega (arith, f .1)) (c .before .before .before .before .if2 .left), s .pre .1 .1)))
+
+returns-3 : tie.Need-returns-3
+returns-3 c = c .row-by-budgets .ensures
+
 active-from-requires : tie.Need-active-from-requires
 active-from-requires c κs =
-    let s = c .before .before .before .before .before .before .before .before .before .before .before in
-    let f = c .before .least-after .ensures in
-    (s .pre .0, (first-end _ (s .pre .0) (f .0) (omega (arith, f .1)) (c .if2 .left), s .pre .1 .1))
-
--- src/rows.rt:144:9
-row-without-requires-3 : tie.Need-row-without-requires-3
-row-without-requires-3 c κs = budget-below _ (c .before .before .before .before .before .before .before .before .before .before .before .before .before .pre .0)
-
--- src/rows.rt:144:9
-returns-3 : tie.Need-returns-3
-returns-3 c =
-    let s = c .before .before .before .before .before .before .before .before .before .before .before .before .before .before in
-    c .row-without3 .ensures ∙ row-without _ (s .args .failing) (overrun-computed _ (s .pre .0)) (c .before .before .active-from .ensures .beyond (c .before .if3 .taken))
-
--- src/rows.rt:146:5
-active-row-requires : tie.Need-active-row-requires
-active-row-requires c κs =
     let s = c .before .before .before .before .before .before .before .before .before .before .before .before .before in
     let f = c .before .before .before .least-after .ensures in
-    (s .pre .0, (c .before .active-from .ensures .at (c .if3 .left), (first-end _ (s .pre .0) (f .0) (omega (arith, f .1)) (c .before .before .if2 .left), s .pre .1 .1)))
+    (s .pre .0, (first-end _ (s .pre .0) (f .0) (omega (arith, f .1)) (c .before .before .if2 .left), s .pre .1 .1))
 
--- src/rows.rt:120:1
+row-without-requires-3 : tie.Need-row-without-requires-3
+row-without-requires-3 c κs = budget-below _ (c .before .before .before .before .before .before .before .before .before .before .before .before .before .before .before .pre .0)
+
 returns-4 : tie.Need-returns-4
 returns-4 c =
-    let is = c .before .before .active-from .ensures .at (c .before .if3 .left) in
-    let s = c .before .before .before .before .before .before .before .before .before .before .before .before .before .before in
+    let s = c .before .before .before .before .before .before .before .before .before .before .before .before .before .before .before .before in
+    c .row-without3 .ensures ∙ row-without _ (s .args .failing) (overrun-computed _ (s .pre .0)) (c .before .before .active-from .ensures .beyond (c .before .if5 .taken))
+
+active-row-requires : tie.Need-active-row-requires
+active-row-requires c κs =
+    let s = c .before .before .before .before .before .before .before .before .before .before .before .before .before .before .before in
+    let f = c .before .before .before .before .before .least-after .ensures in
+    (s .pre .0, (c .before .active-from .ensures .at (c .if5 .left), (first-end _ (s .pre .0) (f .0) (omega (arith, f .1)) (c .before .before .before .before .if2 .left), s .pre .1 .1)))
+
+returns-5 : tie.Need-returns-5
+returns-5 c =
+    let is = c .before .before .active-from .ensures .at (c .before .if5 .left) in
+    let s = c .before .before .before .before .before .before .before .before .before .before .before .before .before .before .before .before in
     c .active-row .ensures ∙ ap (rowFor _ (s .args .failing)) (sym is)
 
 pub row-seen-spec : {M : Type 1} → statement M
@@ -96,8 +93,10 @@ row-seen-spec =
     least-after-requires
     row-without-requires-2
     returns-2
+    row-by-budgets-requires
+    returns-3
     active-from-requires
     row-without-requires-3
-    returns-3
+    returns-4
     active-row-requires
-    returns-4)
+    returns-5)

@@ -1,0 +1,85 @@
+// The row of a subsystem that holds nothing. Its jobs end with their budgets, so that the active period, which ends with the first job
+// that is over by the next one's release, is found on the way from job to job and need not be searched for.
+use crate::Row;
+use crate::responses::Job;
+use crate::responses::Own;
+use crate::responses::Worst;
+use crate::responses::worse;
+use crate::rows::judge;
+use crate::rows::row_without;
+use least::least_after;
+use table::Table;
+ghost use mathlib.Core.Path.{_≡_};
+ghost use Prim.Native.Nat.{_+_};
+ghost use lib.ListN.{getD};
+ghost use Rattle.least.specs.After.{Frees};
+ghost use Rattle.global.specs.Ends.{activePeriod};
+ghost use Rattle.global.specs.Row.{rowFor};
+ghost use Rattle.global.specs.Computed.{seenBy};
+ghost use Rattle.global.specs.Sound.{Sound-view, First-end};
+
+// `release` is that of the next job. The holding times and the ceilings stand for the contract's sake.
+pub(crate) fn row_by_budgets(
+    periods: &[u32],
+    costs: &[u32],
+    frees: &[u32],
+    holdings: &[u32],
+    ceilings: &[usize],
+    own: Own,
+    failing: u32,
+    first: u32,
+    firsts: [u32; Table::MOST],
+) -> Row
+    requires { ⌜ Sound-view (seenBy (now periods) (now costs) (now holdings) (now ceilings) own) ⌝ }
+    requires { ⌜ getD (now costs) (own .place) 0 ≡ own .budget ⌝ }
+    requires { ⌜ First-end (seenBy (now periods) (now costs) (now holdings) (now ceilings) own) firsts first ⌝ }
+    requires { ⌜ Frees (now periods) (now costs) (now frees) (own .place + 1) ⌝ }
+    ensures { λ r. ⌜ r ≡ rowFor (seenBy (now (periods .entry)) (now (costs .entry)) (now (holdings .entry)) (now (ceilings .entry)) own) failing (activePeriod (seenBy (now (periods .entry)) (now (costs .entry)) (now (holdings .entry)) (now (ceilings .entry)) own)) ⌝ }
+{
+    let s = own.place;
+    let more = own.budget;
+    let mut worst = Worst {
+        response: first,
+        job: 0,
+        resource: 0,
+    };
+    let mut ends = firsts;
+    let mut end = first;
+    let mut k: u32 = 0;
+    let mut release = own.period;
+    while release < end {
+        end = least_after(
+            periods,
+            costs,
+            frees,
+            s,
+            &mut ends,
+            end,
+            more,
+            0,
+            Table::HORIZON,
+        );
+        if Table::HORIZON < end {
+            return row_without(own, more, failing);
+        }
+        k += 1;
+        let response = end - release;
+        let job = Job {
+            end,
+            response,
+            resource: 0,
+        };
+        worst = worse(worst, job, k);
+        release += own.period;
+    }
+    Row {
+        holding: 0,
+        failing,
+        blocking: own.blocking,
+        active: end,
+        jobs: k + 1,
+        job: worst.job,
+        resource: worst.resource,
+        outcome: judge(own.period, worst.response),
+    }
+}
