@@ -89,8 +89,9 @@ fn advanced(
 
 // The search: the least solution after y ticks, with `more` ticks to do besides the first n loads, where it is at most the bound; else
 // something above the bound. The bound is within reach, or a solution is, and then any bound will do. No solution lies before
-// `start`. `ends` holds the ends of the periods begun by y, and then of those begun by the solution. It goes round the loads, and is
-// done when it comes back to the one that asked last: all are ahead then.
+// `start`. `ends` holds the ends of the periods begun by y, and then of those begun by the solution. It goes over the loads
+// in passes, each up to `stop`: the end where a load has asked in it, else the load that asked last. There the search is done: all
+// are ahead then.
 fn climb(
     periods: &[u32],
     costs: &[u32],
@@ -118,21 +119,25 @@ fn climb(
         return x;
     }
     let mut last: usize = 0;
+    let mut stop: usize = n;
     let mut t: usize = 0;
     loop {
-        if ends[t] < x {
-            x = ask(periods, costs, frees, t, ends, x, bound);
-            if bound < wide(x) {
+        if t == stop {
+            if stop < n {
                 return x;
             }
-            last = t;
-        }
-        t += 1;
-        if t == n {
             t = 0;
-        }
-        if t == last {
-            return x;
+            stop = last;
+        } else {
+            if ends[t] < x {
+                x = ask(periods, costs, frees, t, ends, x, bound);
+                if bound < wide(x) {
+                    return x;
+                }
+                last = t;
+                stop = n;
+            }
+            t += 1;
         }
     }
 }

@@ -9,11 +9,11 @@ use Rattle.least.proofs.after.least_within.Reads as reads
 use Rattle.least.proofs.after.least_within.Lts as lts
 use Rattle.least.proofs.after.climb.Reads as climb-reads
 
--- src/after.rt:176:5
+-- src/after.rt:181:5
 climb-requires : tie.Need-climb-requires
 climb-requires c κs = (c .before .before .before .before .pre .0, inr (c .before .before .before .before .pre .1))
 
--- src/after.rt:161:1
+-- src/after.rt:166:1
 returns : tie.Need-returns
 returns c =
     let s = c .before .before .before .before .before in
