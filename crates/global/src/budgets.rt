@@ -8,15 +8,28 @@ use crate::responses::worse;
 use crate::rows::judge;
 use crate::rows::row_without;
 use least::least_after;
+use numbers::wide;
 use table::Table;
 ghost use mathlib.Core.Path.{_≡_};
-ghost use Prim.Native.Nat.{_+_};
+ghost use Prim.Native.Nat.{_+_, _-_, _*_, _^_, _≤_, _<_};
+ghost use lib.Dec.{leb};
 ghost use lib.ListN.{getD};
+ghost use Rattle.least.specs.Search.{reach};
 ghost use Rattle.least.specs.After.{Frees};
 ghost use Rattle.global.specs.Ends.{activePeriod};
 ghost use Rattle.global.specs.Row.{rowFor};
 ghost use Rattle.global.specs.Computed.{seenBy};
 ghost use Rattle.global.specs.Sound.{Sound-view, First-end};
+
+// Whether nearly all jobs have to be looked at, though the active period is known. Where nothing is held, those that need not be are
+// some first / (P − Q), the last ones.
+pub(crate) fn nearly_all(own: Own, first: u32, active: u32) -> bool
+    requires { ⌜ (own .budget ≤ own .period) × (own .period < 2 ^ 20) × (first < reach) × (active < reach) ⌝ }
+    ensures { λ r. ⌜ r ≡ leb (first * own .period * 4) (active * (own .period - own .budget)) ⌝ }
+{
+    let few = wide(first) * wide(own.period) * 4;
+    few <= wide(active) * wide(own.period - own.budget)
+}
 
 // `release` is that of the next job. The holding times and the ceilings stand for the contract's sake.
 pub(crate) fn row_by_budgets(

@@ -1,6 +1,7 @@
 // The row of a subsystem.
 use crate::Outcome;
 use crate::Row;
+use crate::budgets::nearly_all;
 use crate::budgets::row_by_budgets;
 use crate::responses::Own;
 use crate::responses::largest_response;
@@ -158,7 +159,8 @@ fn active_from(
 
 // The row from what the subsystem has before it. Only the first `fits` subsystems ask for no more than every tick has; for one
 // behind them nothing is searched. Else the first budget end is, and the active period from there; where nothing is held, that is
-// found on the way, unless the first budget ends many periods late: then one search passes over them all.
+// found on the way, unless the first budget ends many periods late: then one search passes over them all, and tells whether most jobs
+// are settled early.
 fn row_seen(
     periods: &[u32],
     costs: &[u32],
@@ -213,6 +215,21 @@ fn row_seen(
     let active = active_from(periods, costs, frees, holdings, ceilings, own, first, ends);
     if Table::HORIZON < active {
         return row_without(own, cost, failing);
+    }
+    if cost == own.budget {
+        if nearly_all(own, first, active) {
+            return row_by_budgets(
+                periods,
+                costs,
+                frees,
+                holdings,
+                ceilings,
+                own,
+                failing,
+                first,
+                ends,
+            );
+        }
     }
     active_row(
         periods,

@@ -10,6 +10,7 @@ use Rattle.global.proofs.rows.row_seen.Statement.{statement}
 use Rattle.global.proofs.rows.row_seen.Tie as tie
 use Rattle.global.proofs.rows.row_seen.Reads as reads
 use Rattle.global.proofs.rows.row_seen.Lts as lts
+use Rattle.global.proofs.budgets.nearly_all.Reads as nearly-all-reads
 use Rattle.global.proofs.budgets.row_by_budgets.Reads as row-by-budgets-reads
 use Rattle.global.proofs.rows.active_from.Reads as active-from-reads
 use Rattle.global.proofs.rows.active_row.Reads as active-row-reads
@@ -69,16 +70,30 @@ returns-4 c =
     let s = c .before .before .before .before .before .before .before .before .before .before .before .before .before .before .before .before in
     c .row-without3 .ensures ∙ row-without _ (s .args .failing) (overrun-computed _ (s .pre .0)) (c .before .before .active-from .ensures .beyond (c .before .if5 .taken))
 
-active-row-requires : tie.Need-active-row-requires
-active-row-requires c κs =
-    let s = c .before .before .before .before .before .before .before .before .before .before .before .before .before .before .before in
-    let f = c .before .before .before .before .before .least-after .ensures in
-    (s .pre .0, (c .before .active-from .ensures .at (c .if5 .left), (first-end _ (s .pre .0) (f .0) (omega (arith, f .1)) (c .before .before .before .before .if2 .left), s .pre .1 .1)))
+nearly-all-requires : tie.Need-nearly-all-requires
+nearly-all-requires c κs =
+    let sound = c .before .before .before .before .before .before .before .before .before .before .before .before .before .before .before .before .before .pre .0 in
+    (omega (arith, budget-below _ sound, sound .own-cost, sound .fits), sound .period-small, omega (arith, c .before .before .before .before .before .before .if2 .left), omega (arith, c .before .before .if5 .left))
+
+row-by-budgets-requires-2 : tie.Need-row-by-budgets-requires-2
+row-by-budgets-requires-2 c κs =
+    let s = c .before .before .before .before .before .before .before .before .before .before .before .before .before .before .before .before .before .before .before in
+    let f = c .before .before .before .before .before .before .before .before .before .least-after .ensures in
+    (s .pre .0, (c .before .before .if6 .taken, (first-end _ (s .pre .0) (f .0) (omega (arith, f .1)) (c .before .before .before .before .before .before .before .before .if2 .left), s .pre .1 .1)))
 
 returns-5 : tie.Need-returns-5
-returns-5 c =
-    let is = c .before .before .active-from .ensures .at (c .before .if5 .left) in
-    let s = c .before .before .before .before .before .before .before .before .before .before .before .before .before .before .before .before in
+returns-5 c = c .row-by-budgets2 .ensures
+
+active-row-requires : tie.Need-active-row-requires
+active-row-requires c κs =
+    let s = c .before .before .before .before .before .before .before .before .before .before .before .before .before .before .before .before .before in
+    let f = c .before .before .before .before .before .before .before .least-after .ensures in
+    (s .pre .0, (c .before .before .before .active-from .ensures .at (c .before .before .if5 .left), (first-end _ (s .pre .0) (f .0) (omega (arith, f .1)) (c .before .before .before .before .before .before .if2 .left), s .pre .1 .1)))
+
+returns-6 : tie.Need-returns-6
+returns-6 c =
+    let is = c .before .before .before .before .active-from .ensures .at (c .before .before .before .if5 .left) in
+    let s = c .before .before .before .before .before .before .before .before .before .before .before .before .before .before .before .before .before .before in
     c .active-row .ensures ∙ ap (rowFor _ (s .args .failing)) (sym is)
 
 pub row-seen-spec : {M : Type 1} → statement M
@@ -98,5 +113,8 @@ row-seen-spec =
     active-from-requires
     row-without-requires-3
     returns-4
+    nearly-all-requires
+    row-by-budgets-requires-2
+    returns-5
     active-row-requires
-    returns-5)
+    returns-6)
