@@ -11,8 +11,8 @@ use least::least_after;
 use numbers::wide;
 use table::Table;
 ghost use mathlib.Core.Path.{_≡_};
-ghost use Prim.Native.Nat.{_+_, _-_, _*_, _^_, _≤_, _<_};
-ghost use lib.Dec.{leb};
+ghost use mathlib.Core.Bool.{true};
+ghost use Prim.Native.Nat.{_+_, _^_, _≤_, _<_};
 ghost use lib.ListN.{getD};
 ghost use Rattle.least.specs.Search.{reach};
 ghost use Rattle.least.specs.After.{Frees};
@@ -21,14 +21,27 @@ ghost use Rattle.global.specs.Row.{rowFor};
 ghost use Rattle.global.specs.Computed.{seenBy};
 ghost use Rattle.global.specs.Sound.{Sound-view, First-end};
 
-// Whether nearly all jobs have to be looked at, though the active period is known. Where nothing is held, those that need not be are
-// some first / (P − Q), the last ones.
-pub(crate) fn nearly_all(own: Own, first: u32, active: u32) -> bool
-    requires { ⌜ (own .budget ≤ own .period) × (own .period < 2 ^ 20) × (first < reach) × (active < reach) ⌝ }
-    ensures { λ r. ⌜ r ≡ leb (first * own .period * 4) (active * (own .period - own .budget)) ⌝ }
+// Whether nothing is held and the first budget ends some periods late at the most: the jobs are gone through without further ado.
+pub(crate) fn on_the_way(own: Own, cost: u32, first: u32) -> bool
+    ensures { λ r. ⌜ (r ≡ true → cost ≡ own .budget) ⌝ }
 {
-    let few = wide(first) * wide(own.period) * 4;
-    few <= wide(active) * wide(own.period - own.budget)
+    if cost == own.budget {
+        return first / 4 <= own.period;
+    }
+    false
+}
+
+// Whether nothing is held and nearly all jobs have to be looked at, though the active period is known: those that need not be are
+// some first / (P − Q), the last ones.
+pub(crate) fn nearly_all(own: Own, cost: u32, first: u32, active: u32) -> bool
+    requires { ⌜ (cost ≤ own .period) × (own .period < 2 ^ 20) × (first < reach) × (active < reach) ⌝ }
+    ensures { λ r. ⌜ (r ≡ true → cost ≡ own .budget) ⌝ }
+{
+    if cost == own.budget {
+        let few = wide(first) * wide(own.period) * 4;
+        return few <= wide(active) * wide(own.period - cost);
+    }
+    false
 }
 
 // `release` is that of the next job. The holding times and the ceilings stand for the contract's sake.

@@ -2,6 +2,7 @@
 use crate::Outcome;
 use crate::Row;
 use crate::budgets::nearly_all;
+use crate::budgets::on_the_way;
 use crate::budgets::row_by_budgets;
 use crate::responses::Own;
 use crate::responses::largest_response;
@@ -158,9 +159,9 @@ fn active_from(
 }
 
 // The row from what the subsystem has before it. Only the first `fits` subsystems ask for no more than every tick has; for one
-// behind them nothing is searched. Else the first budget end is, and the active period from there; where nothing is held, that is
-// found on the way, unless the first budget ends many periods late: then one search passes over them all, and tells whether most jobs
-// are settled early.
+// behind them nothing is searched. Else the first budget end is, and the active period from there; where nothing is held that is found
+// on the way from job to job, unless the first budget ends many periods late: then one search passes over them all, and tells whether
+// most jobs are settled early.
 fn row_seen(
     periods: &[u32],
     costs: &[u32],
@@ -197,9 +198,13 @@ fn row_seen(
     if Table::HORIZON < first {
         return row_without(own, cost, failing);
     }
-    if cost == own.budget {
-        if first / 4 <= own.period {
-            return row_by_budgets(
+    if !on_the_way(own, cost, first) {
+        let active = active_from(periods, costs, frees, holdings, ceilings, own, first, ends);
+        if Table::HORIZON < active {
+            return row_without(own, cost, failing);
+        }
+        if !nearly_all(own, cost, first, active) {
+            return active_row(
                 periods,
                 costs,
                 frees,
@@ -207,31 +212,13 @@ fn row_seen(
                 ceilings,
                 own,
                 failing,
+                active,
                 first,
                 ends,
             );
         }
     }
-    let active = active_from(periods, costs, frees, holdings, ceilings, own, first, ends);
-    if Table::HORIZON < active {
-        return row_without(own, cost, failing);
-    }
-    if cost == own.budget {
-        if nearly_all(own, first, active) {
-            return row_by_budgets(
-                periods,
-                costs,
-                frees,
-                holdings,
-                ceilings,
-                own,
-                failing,
-                first,
-                ends,
-            );
-        }
-    }
-    active_row(
+    row_by_budgets(
         periods,
         costs,
         frees,
@@ -239,7 +226,6 @@ fn row_seen(
         ceilings,
         own,
         failing,
-        active,
         first,
         ends,
     )
