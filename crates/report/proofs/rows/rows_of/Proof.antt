@@ -33,33 +33,24 @@ abbrev μ-loop : tie.MeasureT-loop
 μ-loop grid n m holdings lines fits periods costs frees ceilings blockings rows₀ s₀ rows s = n - s
 
 -- The arrays that all rows share are long enough to be lent.
-periods-long : (k : tie.At-loop Inv-loop μ-loop) → k .before .before .before .before .before .before .before .before .before .before .before .before .args .n ≤ length (k .before .before .before .before .before .before .before .before .in-common .result .periods)
-periods-long k =
-    let ic = k .before .before .before .before .before .before .before .before in
-    let io = ic .before .before in
-    let s = io .before .before in
-    lent.periods-long (s .args .n) (s .args .m) _ _ (sound-lines _ _ _ _ (io .interfaces-of .ensures) (s .pre .0)) (ic .in-common .ensures)
+module _ (k : tie.At-loop Inv-loop μ-loop) where
+  abbrev made : tie.After-in-common Inv-loop μ-loop
+  made = k .before .before .before .before .before .before .before .before
 
-costs-long : (k : tie.At-loop Inv-loop μ-loop) → k .before .before .before .before .before .before .before .before .before .before .before .before .args .n ≤ length (k .before .before .before .before .before .before .before .before .in-common .result .costs)
-costs-long k =
-    let ic = k .before .before .before .before .before .before .before .before in
-    let io = ic .before .before in
-    let s = io .before .before in
-    lent.costs-long (s .args .n) (s .args .m) _ _ (sound-lines _ _ _ _ (io .interfaces-of .ensures) (s .pre .0)) (ic .in-common .ensures)
+  abbrev entry : tie.Start Inv-loop μ-loop
+  entry = made .before .before .before .before
 
-frees-long : (k : tie.At-loop Inv-loop μ-loop) → k .before .before .before .before .before .before .before .before .before .before .before .before .args .n ≤ length (k .before .before .before .before .before .before .before .before .in-common .result .frees)
-frees-long k =
-    let ic = k .before .before .before .before .before .before .before .before in
-    let io = ic .before .before in
-    let s = io .before .before in
-    lent.frees-long (s .args .n) (s .args .m) _ _ (sound-lines _ _ _ _ (io .interfaces-of .ensures) (s .pre .0)) (ic .in-common .ensures)
+  periods-long : entry .args .n ≤ length (made .in-common .result .periods)
+  periods-long = lent.periods-long (entry .args .n) (entry .args .m) _ _ (sound-lines _ _ _ _ (made .before .before .interfaces-of .ensures) (entry .pre .0)) (made .in-common .ensures)
 
-ceilings-long : (k : tie.At-loop Inv-loop μ-loop) → k .before .before .before .before .before .before .before .before .before .before .before .before .args .m ≤ length (k .before .before .before .before .before .before .before .before .in-common .result .ceilings)
-ceilings-long k =
-    let ic = k .before .before .before .before .before .before .before .before in
-    let io = ic .before .before in
-    let s = io .before .before in
-    lent.ceilings-long (s .args .n) (s .args .m) _ _ (sound-lines _ _ _ _ (io .interfaces-of .ensures) (s .pre .0)) (ic .in-common .ensures)
+  costs-long : entry .args .n ≤ length (made .in-common .result .costs)
+  costs-long = lent.costs-long (entry .args .n) (entry .args .m) _ _ (sound-lines _ _ _ _ (made .before .before .interfaces-of .ensures) (entry .pre .0)) (made .in-common .ensures)
+
+  frees-long : entry .args .n ≤ length (made .in-common .result .frees)
+  frees-long = lent.frees-long (entry .args .n) (entry .args .m) _ _ (sound-lines _ _ _ _ (made .before .before .interfaces-of .ensures) (entry .pre .0)) (made .in-common .ensures)
+
+  ceilings-long : entry .args .m ≤ length (made .in-common .result .ceilings)
+  ceilings-long = lent.ceilings-long (entry .args .n) (entry .args .m) _ _ (sound-lines _ _ _ _ (made .before .before .interfaces-of .ensures) (entry .pre .0)) (made .in-common .ensures)
 
 interfaces-of-requires : tie.Need-interfaces-of-requires Inv-loop μ-loop
 interfaces-of-requires c κs = (c .before .pre .0, (c .before .pre .1, refl))
