@@ -64,6 +64,18 @@ def some_table():
     return [resources, [some_subsystem(resources) for _ in range(chance.randint(1, 8))]]
 
 
+def sparse_table():
+    """Eight resources, of which a subsystem holds one at the most: loops over resources find nothing."""
+    subsystems = []
+    for _ in range(chance.randint(3, 8)):
+        tasks = [some_task(8) for _ in range(chance.choice([1, 2, 2, 2, 3]))]
+        for task in tasks:
+            task[3] = [0] * 8
+        chance.choice(tasks)[3][chance.randrange(8)] = chance.choice([0, 1, 1])
+        subsystems.append([chance.choice([10, 30, 100, 1000]), chance.choice([1, 1, 2, 3]), tasks])
+    return [8, subsystems]
+
+
 def climbing_table():
     """Higher subsystems that leave little free, so that a solution is reached in many steps."""
     left, subsystems = 1 - 1 / chance.choice([20, 50, 100, 300, 1000, 3000]), []
@@ -145,7 +157,7 @@ def changed(table):
 worst, tried, end = [], 0, time.time() + float(seconds)
 while time.time() < end:
     fresh = len(worst) < 8 or chance.random() < 0.12
-    table = chance.choice([some_table, climbing_table, flowing_table])() if fresh else changed(chance.choice(worst[:15])[1])
+    table = chance.choice([some_table, sparse_table, climbing_table, flowing_table])() if fresh else changed(chance.choice(worst[:15])[1])
     tried += 1
     if all(table != known for _, known in worst):
         worst.append((ratio(table), table))
