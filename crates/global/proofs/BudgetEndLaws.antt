@@ -52,6 +52,13 @@ module _ (v : View) (sv : Sound-view v) where
   budget-floor k =
       stands-at-floor (budgetTotal v k) (omega (arith, sv .budget-pos, ahead-holds-budget v k)) (λ y l. omega (arith, budget-total v k y))
 
+  -- The next job's search may start Q + X after the end of job k's budget.
+  pub stands-after : (k : ℕ) {end : ℕ} → IsLeast (budgetTotal v k) end → Stands (budgetTotal v (k + 1)) (end + cost v)
+  stands-after k {end} i =
+      stands-warm (budgetTotal v k) (budgetTotal v (k + 1)) (cost v) (least-stands (budgetTotal v k) i)
+      (λ y h. omega (arith, budget-total v k y, budget-total v (k + 1) y, ahead-next v k))
+      (λ y h. omega (arith, budget-total v (k + 1) y, ahead-next v k, i .solution, budget-total v k end, demand-mono (v .periods) (v .costs) (v .place) (higher-loads v sv) h))
+
   module _ {k : ℕ} (ct : Counted v k) where
     -- The jobs before k take less than the active period.
     pub jobs-before-within : k * getD (v .costs) (v .place) 0 < ct .active
@@ -107,12 +114,8 @@ module _ (v : View) (sv : Sound-view v) where
     pub budget-found : {z : ℕ} → IsLeast (budgetTotal v k) z → z ≡ budgetEnd v k
     budget-found i = least-is-one (budgetTotal v k) i budget-end-is-least
 
-    -- The next job's search may start at F(k) + Q + X.
     pub next-starts : Stands (budgetTotal v (k + 1)) (budgetEnd v k + cost v)
-    next-starts =
-        stands-warm (budgetTotal v k) (budgetTotal v (k + 1)) (cost v) (least-stands (budgetTotal v k) budget-end-is-least)
-        (λ y h. omega (arith, budget-total v k y, budget-total v (k + 1) y, ahead-next v k))
-        (λ y h. omega (arith, budget-total v (k + 1) y, ahead-next v k, budget-end-parts, demand-mono (v .periods) (v .costs) (v .place) (higher-loads v sv) h))
+    next-starts = stands-after k budget-end-is-least
 
     -- After F(k), X ticks of the active period are left.
     pub last-leaves : budgetEnd v k + cost v ≤ ct .active + v .budget

@@ -12,11 +12,11 @@ use lib.ListN.{length}
 use Rattle.lists.proofs.Over.{le-or-lt}
 use Rattle.least.specs.Up.{up}
 use Rattle.least.specs.Demand.{demand, total}
-use Rattle.least.specs.Search.{Stands, IsLeast}
-use Rattle.least.specs.After.{EndsAt, afterwards, Waits, Frees, After, Found}
+use Rattle.least.specs.Search.{IsLeast}
+use Rattle.least.specs.After.{EndsAt, afterwards, Frees, After, Found}
 use Rattle.least.proofs.Up.{up-holds, up-is-least, up-pos}
-use Rattle.least.proofs.Demand.{demand-mono, total-mono}
-use Rattle.least.proofs.Search.{stands-warm, stands-below, least-stands, least-exists}
+use Rattle.least.proofs.Demand.{total-mono}
+use Rattle.least.proofs.Search.{stands-below, least-exists}
 use Rattle.least.proofs.LeastLaws.{least-found, least-nowhere}
 use Rattle.least.proofs.ClimbLaws.{starts-nowhere}
 use Rattle.table.specs.Limits.{most, horizon}
@@ -27,8 +27,8 @@ use Rattle.global.specs.Ends.{activePeriod, jobs, ahead, budgetEnd}
 use Rattle.global.specs.Computed.{jobOf}
 use Rattle.global.specs.Sound.{Sound-view, First-end}
 use Rattle.global.proofs.ActiveLaws.{period-pos, higher-loads, activeTotal, active-total}
-use Rattle.global.proofs.BudgetEndLaws.{budgetTotal, budget-total, budget-starts, ahead-next}
-use Rattle.global.proofs.WaitLaws.{higher-fit, frees-fewer}
+use Rattle.global.proofs.BudgetEndLaws.{budgetTotal, budget-total, budget-starts, stands-after}
+use Rattle.global.proofs.WaitLaws.{frees-fewer, left-after, waits-after}
 use Rattle.global.proofs.ResponseLaws.{job-without}
 
 -- No job before k is over by the next one's release: there is more to do then than time has passed.
@@ -130,25 +130,12 @@ module _ (v : View) (sv : Sound-view v) (nothing : overrun v ≡ 0) where
           (le-or-lt k j)
 
       next-ahead : afterwards (v .periods) (v .costs) (v .place) end (v .budget) ≡ ahead v (k + 1)
-      next-ahead = omega (arith, r .is-least .solution, budget-total v k end, ahead-next v k, cost-is-budget)
-
-      next-stands : Stands (budgetTotal v (k + 1)) (end + v .budget)
-      next-stands =
-          stands-warm (budgetTotal v k) (budgetTotal v (k + 1)) (v .budget) (least-stands (budgetTotal v k) (r .is-least))
-          (λ y h. omega (arith, budget-total v k y, budget-total v (k + 1) y, ahead-next v k))
-          (λ y h. omega (arith, budget-total v (k + 1) y, ahead-next v k, cost-is-budget, r .is-least .solution, budget-total v k end, demand-mono (v .periods) (v .costs) (v .place) (higher-loads v sv) h))
+      next-ahead = omega (arith, left-after v sv k (r .is-least), cost-is-budget)
 
       pub next-after : {frees : List ℕ} → Frees (v .periods) (v .costs) frees (v .place + 1) → After (v .periods) (v .costs) frees ends (v .place) end (v .budget) 0
       next-after fr =
           record {
-            waits =
-                record {
-                  fit = higher-fit v sv;
-                  few = omega (arith, sv .few);
-                  asked = omega (arith, r .is-least .solution, budget-total v k end);
-                  stands = rw next-ahead next-stands;
-                  small = omega (arith, r .within, cost-is-budget, sv .fits, sv .period-small);
-                };
+            waits = rw (← cost-is-budget) (waits-after v sv k (r .is-least) (r .within));
             free = frees-fewer (v .place) fr (omega arith);
             with-end = omega (arith, r .with-end, sv .few);
             ends-at = r .ends-at;
@@ -168,7 +155,7 @@ module _ (v : View) (sv : Sound-view v) (nothing : overrun v ≡ 0) where
               with-end = omega (arith, same, r .with-end);
               ends-at = found .ends-at h;
               busy = busy-next;
-              released = omega (arith, late, stands-below (budgetTotal v (k + 1)) next-stands (i .from) (omega (arith, i .solution)));
+              released = omega (arith, late, stands-below (budgetTotal v (k + 1)) (stands-after v sv k (r .is-least)) (i .from) (omega (arith, i .solution)));
             }
 
         -- Beyond the horizon there is no active period.

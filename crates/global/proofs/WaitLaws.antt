@@ -25,7 +25,7 @@ use Rattle.global.specs.View.{View, cost}
 use Rattle.global.specs.Ends.{activePeriod, ahead, budgetEnd}
 use Rattle.global.specs.Sound.{Sound-view, Counted, First-end, Active}
 use Rattle.global.proofs.ActiveLaws.{budget-at-most, period-pos, higher-loads, activeTotal, active-total, active-within, some-job}
-use Rattle.global.proofs.BudgetEndLaws.{budgetTotal, budget-total, ahead-next, budget-floor, budget-end-is-least, budget-end-within, budget-end-parts, budget-comes-down, budget-found, next-starts}
+use Rattle.global.proofs.BudgetEndLaws.{budgetTotal, budget-total, ahead-next, budget-floor, budget-end-is-least, budget-end-within, budget-comes-down, budget-found, stands-after}
 
 -- What the first m of n loads leave free.
 pub frees-fewer : {periods costs frees : List ℕ} {n : ℕ} (m : ℕ) → Frees periods costs frees n → m ≤ n → Frees periods costs frees m
@@ -67,20 +67,27 @@ module _ (v : View) (sv : Sound-view v) where
   pub first-small : v .blocking + v .budget < 2 ^ 25
   first-small = omega (arith, sv .blocking-small, budget-at-most v, sv .fits, sv .period-small)
 
-  module _ {k : ℕ} (ct : Counted v k) where
-    -- From F(k): what is still waited for is what job k + 1 waits for.
-    pub next-ahead : afterwards (v .periods) (v .costs) (v .place) (budgetEnd v k) (cost v) ≡ ahead v (k + 1)
-    next-ahead = omega (arith, budget-end-parts v sv ct, ahead-next v k)
+  -- From the end of job k's budget: what is still waited for is what job k + 1 waits for.
+  module _ (k : ℕ) {end : ℕ} (i : IsLeast (budgetTotal v k) end) where
+    pub left-after : afterwards (v .periods) (v .costs) (v .place) end (cost v) ≡ ahead v (k + 1)
+    left-after = omega (arith, i .solution, budget-total v k end, ahead-next v k)
 
-    pub waits-from-end : Waits (v .periods) (v .costs) (v .place) (budgetEnd v k) (cost v)
-    waits-from-end =
+    pub waits-after : end ≤ horizon → Waits (v .periods) (v .costs) (v .place) end (cost v)
+    waits-after h =
         record {
           fit = higher-fit;
           few = omega (arith, sv .few);
-          asked = omega (arith, budget-end-parts v sv ct);
-          stands = rw next-ahead (next-starts v sv ct);
-          small = omega (arith, budget-end-within v sv ct, active-within v sv (ct .is-active), sv .fits, sv .period-small);
+          asked = omega (arith, i .solution, budget-total v k end);
+          stands = rw left-after (stands-after v sv k i);
+          small = omega (arith, h, sv .fits, sv .period-small);
         }
+
+  module _ {k : ℕ} (ct : Counted v k) where
+    pub next-ahead : afterwards (v .periods) (v .costs) (v .place) (budgetEnd v k) (cost v) ≡ ahead v (k + 1)
+    next-ahead = left-after k (budget-end-is-least v sv ct)
+
+    pub waits-from-end : Waits (v .periods) (v .costs) (v .place) (budgetEnd v k) (cost v)
+    waits-from-end = waits-after k (budget-end-is-least v sv ct) (omega (arith, budget-end-within v sv ct, active-within v sv (ct .is-active)))
 
   -- The same as the code has it: from `end`, with what its own load costs, and the ends of the periods begun by then.
   module _ {k : ℕ} (ct : Counted v k) {end : ℕ} (e : end ≡ budgetEnd v k) where
