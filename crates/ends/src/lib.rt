@@ -2,20 +2,20 @@
 // resource. The rows of crate `global` go through all of them; this is for whoever asks about one. Every function here is
 // proved, and the crate assumes nothing.
 use least::demand_in;
-use least::ends_at;
-use least::least_after;
-use least::least_within;
 use least::round_up;
 use numbers::wide;
 use outer::Common;
 use outer::interfaces;
 use outer::interfaces::WIDTH;
+use search::ends_at;
+use search::least_after;
+use search::least_within;
 use table::Table;
 ghost use mathlib.Core.Path.{_≡_};
 ghost use Prim.Native.Nat.{_<_};
 ghost use Rattle.least.specs.Demand.{total};
 ghost use Rattle.least.specs.Search.{IsLeast};
-ghost use Rattle.least.specs.After.{afterwards, Frees};
+ghost use Rattle.search.specs.After.{afterwards, Frees};
 ghost use Rattle.outer.specs.Interfaces.{interfacesIn};
 ghost use Rattle.outer.specs.Blocking.{blocking};
 ghost use Rattle.outer.specs.Common.{commonOf};

@@ -5,7 +5,7 @@ use native.Mathlib.Omega.{arith}
 use mathlib.Core.List.{List}
 use Rattle.least.specs.Demand.{total}
 use Rattle.least.specs.Search.{IsLeast}
-use Rattle.least.specs.After.{afterwards}
+use Rattle.search.specs.After.{afterwards}
 use Rattle.least.proofs.Search.{stands-below}
 use Rattle.global.specs.Computed.{Budget-over}
 

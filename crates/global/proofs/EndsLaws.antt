@@ -10,7 +10,7 @@ use Rattle.lists.proofs.Over.{sumTo-at-most}
 use Rattle.least.specs.Up.{up}
 use Rattle.least.specs.Demand.{loadIn, demand, total}
 use Rattle.least.specs.Search.{Comes-down, IsLeast}
-use Rattle.least.specs.After.{afterwards, Waits, Frees, After, Found}
+use Rattle.search.specs.After.{afterwards, Waits, Frees, After, Found}
 use Rattle.least.proofs.Up.{up-at-most}
 use Rattle.least.proofs.Demand.{total-mono}
 use Rattle.least.proofs.Search.{stands-at-one, stands-next, least-is-one}

@@ -7,7 +7,7 @@ use lib.ListN.{length, getD, take}
 use Rattle.lists.specs.Range.{upTo}
 use Rattle.lists.proofs.UpTo.{getD-padded, getD-upTo}
 use Rattle.least.specs.Search.{Loads}
-use Rattle.least.specs.After.{Frees}
+use Rattle.search.specs.After.{Frees}
 use Rattle.table.specs.Limits.{most}
 use Rattle.outer.specs.declared.ceilings.Common.{Common}
 use Rattle.outer.specs.Interfaces.{budgetAt, heldAt, interfacesIn}

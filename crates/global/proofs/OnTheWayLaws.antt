@@ -13,12 +13,12 @@ use Rattle.lists.proofs.Over.{le-or-lt}
 use Rattle.least.specs.Up.{up}
 use Rattle.least.specs.Demand.{demand, total}
 use Rattle.least.specs.Search.{IsLeast}
-use Rattle.least.specs.After.{EndsAt, afterwards, Frees, After, Found}
+use Rattle.search.specs.After.{EndsAt, afterwards, Frees, After, Found}
 use Rattle.least.proofs.Up.{up-holds, up-is-least, up-pos}
 use Rattle.least.proofs.Demand.{total-mono}
 use Rattle.least.proofs.Search.{stands-below, least-exists}
 use Rattle.least.proofs.LeastLaws.{least-found, least-nowhere}
-use Rattle.least.proofs.ClimbLaws.{starts-nowhere}
+use Rattle.search.proofs.ClimbLaws.{starts-nowhere}
 use Rattle.table.specs.Limits.{most, horizon}
 use Rattle.outer.specs.Blocking.{numberOr}
 use Rattle.global.specs.declared.responses.Job.{Job}

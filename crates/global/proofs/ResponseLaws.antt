@@ -12,8 +12,8 @@ use Rattle.lists.specs.Range.{largestTo}
 use Rattle.lists.proofs.Over.{le-or-lt}
 use Rattle.least.specs.Demand.{total}
 use Rattle.least.specs.Search.{IsLeast}
-use Rattle.least.specs.After.{afterwards}
-use Rattle.least.proofs.ClimbLaws.{fit-fewer}
+use Rattle.search.specs.After.{afterwards}
+use Rattle.search.proofs.ClimbLaws.{fit-fewer}
 use Rattle.least.proofs.Search.{least-is-one}
 use Rattle.global.specs.View.{View, resources, held, ceiling, overrun, cost}
 use Rattle.global.specs.Ends.{budgetEnd, jobEnd}

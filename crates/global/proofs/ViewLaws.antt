@@ -6,7 +6,7 @@ use Rattle.lists.specs.Range.{largestTo}
 use Rattle.lists.proofs.Over.{largestTo-ext, largest-at-most}
 use Rattle.lists.proofs.UpTo.{length-upTo, getD-upTo}
 use Rattle.least.specs.Search.{Loads}
-use Rattle.least.specs.After.{Fit}
+use Rattle.search.specs.After.{Fit}
 use Rattle.table.specs.Limits.{most, largest}
 use Rattle.outer.specs.Interfaces.{InterfacesM}
 use Rattle.outer.specs.Parts.{count, periodOf, budgetOf, holdingOf, holding, costOf, periods, costs}

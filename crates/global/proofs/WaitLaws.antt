@@ -11,14 +11,14 @@ use Rattle.least.specs.Up.{up}
 use Rattle.least.specs.Demand.{demand, total}
 use Rattle.least.specs.Share.{unit, shares, standingAt}
 use Rattle.least.specs.Least.{least}
-use Rattle.least.specs.Search.{Stands, Comes-down, IsLeast}
-use Rattle.least.specs.After.{Fit, EndsAt, afterwards, Waits, Frees, Starts, After, Found}
+use Rattle.least.specs.Search.{Stands, Comes-down, IsLeast, Starts}
+use Rattle.search.specs.After.{Fit, EndsAt, afterwards, Waits, Frees, After, Found}
 use Rattle.least.proofs.Up.{up-pos, up-is-tight}
 use Rattle.least.proofs.Demand.{demand-suc, demand-at-none, total-mono}
 use Rattle.least.proofs.Search.{stands-next}
 use Rattle.least.proofs.ShareLaws.{standing-starts}
 use Rattle.least.proofs.LeastLaws.{least-found, least-nowhere}
-use Rattle.least.proofs.ClimbLaws.{fit-fewer, ends-at-none, ends-at-more, starts-nowhere}
+use Rattle.search.proofs.ClimbLaws.{fit-fewer, ends-at-none, ends-at-more, starts-nowhere}
 use Rattle.table.specs.Limits.{most, horizon}
 use Rattle.outer.specs.Blocking.{numberOr}
 use Rattle.global.specs.View.{View, cost}

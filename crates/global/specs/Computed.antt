@@ -5,7 +5,7 @@ use mathlib.Core.List.{List}
 use Rattle.lists.specs.Range.{largestTo}
 use Rattle.least.specs.Demand.{total}
 use Rattle.least.specs.Search.{Comes-down}
-use Rattle.least.specs.After.{afterwards, Waits}
+use Rattle.search.specs.After.{afterwards, Waits}
 use Rattle.global.specs.declared.responses.Own.{Own}
 use Rattle.global.specs.declared.responses.Best.{Best}
 use Rattle.global.specs.declared.responses.Job.{Job}

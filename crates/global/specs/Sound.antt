@@ -9,7 +9,7 @@ use mathlib.Core.Option.{none, some}
 use lib.ListN.{length, getD}
 use Rattle.least.specs.Demand.{total}
 use Rattle.least.specs.Search.{IsLeast}
-use Rattle.least.specs.After.{Fit, EndsAt}
+use Rattle.search.specs.After.{Fit, EndsAt}
 use Rattle.table.specs.Limits.{most, horizon}
 use Rattle.global.specs.View.{View, resources, held, ceiling, cost}
 use Rattle.global.specs.Ends.{activePeriod, jobs, ahead, budgetEnd}

@@ -1,10 +1,10 @@
 // Budget ends, job ends and responses of one subsystem, over every job of its active period.
 use least::demand_in;
-use least::least_within;
 use least::round_up;
 use least::spare_of;
 use least::standing;
 use numbers::wide;
+use search::least_within;
 use table::Table;
 ghost use mathlib.Core.Path.{_≡_};
 ghost use mathlib.Core.Bool.{true, false, cond};
@@ -14,7 +14,7 @@ ghost use lib.ListN.{length, getD};
 ghost use Rattle.least.specs.Demand.{total};
 ghost use Rattle.least.specs.Search.{Loads, IsLeast, reach};
 ghost use Rattle.least.specs.Share.{unit, shares};
-ghost use Rattle.least.specs.After.{Frees, EndsAt, afterwards};
+ghost use Rattle.search.specs.After.{Frees, EndsAt, afterwards};
 ghost use Rattle.table.specs.Limits.{most};
 ghost use Rattle.global.specs.Response.{responseWith};
 ghost use Rattle.global.specs.Ends.{budgetEnd};

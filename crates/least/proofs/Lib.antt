@@ -4,7 +4,3 @@ pub mod Demand
 pub mod Search
 pub mod LeastLaws
 pub mod ShareLaws
-pub mod CatchLaws
-pub mod ClimbLaws
-pub mod AdvanceLaws
-pub mod RoundLaws

@@ -13,8 +13,7 @@ use Rattle.least.specs.Up.{up}
 use Rattle.least.specs.Demand.{loadIn, demand, total}
 use Rattle.least.specs.Share.{unit, shareOf, shares, Fitting, standingAt}
 use Rattle.least.specs.Least.{least}
-use Rattle.least.specs.Search.{Loads, Stands, reach}
-use Rattle.least.specs.After.{Starts}
+use Rattle.least.specs.Search.{Loads, Stands, Starts, reach}
 use Rattle.least.proofs.Up.{up-holds}
 use Rattle.least.proofs.Demand.{loads-fewer}
 use Rattle.least.proofs.LeastLaws.{least-passed}

@@ -1,8 +1,6 @@
--- Division rounded up; loads and what they ask for; the least solution over loads and a constant part; what a search rests on, and
--- one that goes on from an earlier one.
+-- Division rounded up; loads and what they ask for; the least solution over loads and a constant part; what a search rests on.
 pub mod Up
 pub mod Demand
 pub mod Share
 pub mod Least
 pub mod Search
-pub mod After

@@ -1,5 +1,5 @@
 -- What a search for a least solution rests on: loads whose sums fit machine numbers, a number at which the search may
--- stand, and a number above which it need not look. Assumes nothing.
+-- stand, a number further on at which it may, and one above which it need not look. Assumes nothing.
 use Prim.Native.Nat.{ℕ, _≤_, _<_, _^_}
 use mathlib.Core.Path.{_≡_}
 use mathlib.Core.List.{List}
@@ -36,3 +36,8 @@ pub record IsLeast (f : ℕ → ℕ) (z : ℕ) : Type 0 where
   pub from : 1 ≤ z
   pub solution : z ≡ f z
   pub before : (y : ℕ) → 1 ≤ y → y < z → y < f y
+
+-- No solution lies before `start`, where that is further on than the search has come: it may stand there. 0 stands for no such number.
+pub record Starts (f : ℕ → ℕ) (x start : ℕ) : Type 0 where
+  pub stands : x < start → Stands f start
+  pub within : start ≤ reach

@@ -1,12 +1,6 @@
-// Least solutions of x = constant + demand of a list of loads in x ticks, and division rounded up. Steps 7, 9 and 10 of
-// the analysis are such solutions. Loads come as a slice of periods and a slice of costs, of which the first n count.
-// Every function here is proved, and the crate assumes nothing.
-mod after;
-
-pub use after::SLOTS;
-pub use after::ends_at;
-pub use after::least_after;
-pub use after::least_within;
+// Division rounded up, loads and what they ask for, and how far on a search for a least solution of x = constant + demand of
+// loads in x ticks may stand. Steps 7, 9 and 10 of the analysis are such solutions; crate `search` finds them. Loads come as
+// a slice of periods and a slice of costs, of which the first n count. Every function here is proved, and the crate assumes nothing.
 use numbers::wide;
 ghost use mathlib.Core.Path.{_≡_};
 ghost use Prim.Native.Nat.{_*_, _-_, _/_, _≤_, _<_, _^_};
@@ -19,7 +13,7 @@ ghost use Rattle.least.specs.Search.{Loads, reach};
 const UNIT: u64 = 1_099_511_627_776;
 
 // Every search stays below this number of ticks: 2 ^ 24.
-const REACH: u32 = 16_777_216;
+pub const REACH: u32 = 16_777_216;
 
 // Up(a, b): a divided by b, rounded up, in one 32-bit division.
 pub fn round_up(a: u32, b: u32) -> u32

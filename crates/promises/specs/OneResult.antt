@@ -10,7 +10,7 @@ use Rattle.least.specs.Share.{Fitting}
 use Rattle.least.specs.Search.{IsLeast}
 use Rattle.least.proofs.ShareLaws.{shares-longer}
 
--- There is one least solution only: the contract of `least::least_within` determines its result.
+-- There is one least solution only: the contract of `search::least_within` determines its result.
 pub one-least-solution : (f : ℕ → ℕ) (y z : ℕ) → IsLeast f y → IsLeast f z → y ≡ z
 one-least-solution f y z a b =
     ⊎-elim (λ (l : y ≤ z).

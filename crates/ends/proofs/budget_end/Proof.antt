@@ -3,7 +3,7 @@ use Prim.Native.Nat.{_+_, _≤_}
 use mathlib.Core.Path.{_≡_}
 use lib.ListN.{length, take}
 use denote.Ref.{now}
-use Rattle.least.specs.After.{Frees}
+use Rattle.search.specs.After.{Frees}
 use Rattle.outer.specs.Interfaces.{interfacesIn}
 use Rattle.outer.proofs.SharedLaws.{used-length}
 use Rattle.global.specs.View.{viewOf}
@@ -17,7 +17,7 @@ use Rattle.ends.proofs.budget_end.Tie as tie
 use Rattle.ends.proofs.budget_end.Reads as reads
 use Rattle.ends.proofs.budget_end.Lts as lts
 use Rattle.ends.proofs.ahead_of_job.Reads as ahead-of-job-reads
-use Rattle.least.proofs.least_within.Reads as least-within-reads
+use Rattle.search.proofs.least_within.Reads as least-within-reads
 
 periods-long : (s : tie.Start) → s .args .n ≤ length (s .args .common .periods)
 periods-long s = lent.periods-long (s .args .n) (s .args .m) (now (s .args .lines)) (s .args .common) (s .pre .0) (s .pre .1 .0)

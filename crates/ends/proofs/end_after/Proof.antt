@@ -2,13 +2,13 @@
 -- Assumes nothing.
 use native.Mathlib.Omega.{arith}
 use borrow.Author.Needs.{needs}
-use Rattle.least.proofs.ClimbLaws.{starts-nowhere}
+use Rattle.search.proofs.ClimbLaws.{starts-nowhere}
 use Rattle.ends.proofs.end_after.Statement.{statement}
 use Rattle.ends.proofs.end_after.Tie as tie
 use Rattle.ends.proofs.end_after.Reads as reads
 use Rattle.ends.proofs.end_after.Lts as lts
-use Rattle.least.proofs.ends_at.Reads as ends-at-reads
-use Rattle.least.proofs.least_within.Reads as least-within-reads
+use Rattle.search.proofs.ends_at.Reads as ends-at-reads
+use Rattle.search.proofs.least_within.Reads as least-within-reads
 
 ends-at-requires : tie.Need-ends-at-requires
 ends-at-requires c κs = search needs

@@ -6,7 +6,7 @@ use mathlib.Core.Path.{_≡_, _∙_}
 use lib.ListN.{length, getD, take}
 use denote.Ref.{now}
 use borrow.Author.Needs.{needs}
-use Rattle.least.specs.After.{Frees}
+use Rattle.search.specs.After.{Frees}
 use Rattle.table.specs.Limits.{most}
 use Rattle.outer.specs.Interfaces.{interfacesIn}
 use Rattle.outer.proofs.Slots.{few-of, few-resources-of}

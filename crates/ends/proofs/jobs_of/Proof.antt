@@ -6,8 +6,8 @@ use lib.ListN.{length, take}
 use denote.Ref.{now}
 use Rattle.least.specs.Up.{up}
 use Rattle.least.specs.Demand.{demand}
-use Rattle.least.specs.After.{Fit, Frees}
-use Rattle.least.proofs.ClimbLaws.{fit-periods, starts-nowhere}
+use Rattle.search.specs.After.{Fit, Frees}
+use Rattle.search.proofs.ClimbLaws.{fit-periods, starts-nowhere}
 use Rattle.table.specs.Limits.{most}
 use Rattle.outer.specs.Interfaces.{interfacesIn}
 use Rattle.outer.proofs.Slots.{few-of}
@@ -24,8 +24,8 @@ use Rattle.ends.proofs.jobs_of.Tie as tie
 use Rattle.ends.proofs.jobs_of.Reads as reads
 use Rattle.ends.proofs.jobs_of.Lts as lts
 use Rattle.ends.proofs.blocking_in.Reads as blocking-in-reads
-use Rattle.least.proofs.ends_at.Reads as ends-at-reads
-use Rattle.least.proofs.least_after.Reads as least-after-reads
+use Rattle.search.proofs.ends_at.Reads as ends-at-reads
+use Rattle.search.proofs.least_after.Reads as least-after-reads
 use Rattle.least.proofs.demand_in.Reads as demand-in-reads
 use Rattle.least.proofs.round_up.Reads as round-up-reads
 

@@ -1,7 +1,7 @@
 -- `global::responses::next_end` meets its contract: the search goes on from the last budget end, with or without a further start. Assumes nothing.
 use native.Mathlib.Omega.{arith}
 use Prim.Native.Nat.{_+_, _≤_}
-use Rattle.least.proofs.ClimbLaws.{starts-nowhere}
+use Rattle.search.proofs.ClimbLaws.{starts-nowhere}
 use Rattle.global.proofs.JobsLaws.{counted-before, job-small, ahead-within}
 use Rattle.global.proofs.WaitLaws.{next-after, next-down, next-found, starts-by-spare}
 use borrow.Author.Needs.{needs}
@@ -9,7 +9,7 @@ use Rattle.global.proofs.responses.next_end.Statement.{statement}
 use Rattle.global.proofs.responses.next_end.Tie as tie
 use Rattle.global.proofs.responses.next_end.Reads as reads
 use Rattle.global.proofs.responses.next_end.Lts as lts
-use Rattle.least.proofs.least_within.Reads as least-within-reads
+use Rattle.search.proofs.least_within.Reads as least-within-reads
 use Rattle.least.proofs.standing.Reads as standing-reads
 
 -- src/responses.rt:267:16

@@ -2,13 +2,13 @@
 -- after that, so the release can be taken off. Assumes nothing.
 use Rattle.global.proofs.AfterLaws.{after-from, after-responds}
 use native.Mathlib.Omega.{arith}
-use Rattle.least.proofs.ClimbLaws.{starts-nowhere}
+use Rattle.search.proofs.ClimbLaws.{starts-nowhere}
 use borrow.Author.Needs.{needs}
 use Rattle.global.proofs.responses.response_with.Statement.{statement}
 use Rattle.global.proofs.responses.response_with.Tie as tie
 use Rattle.global.proofs.responses.response_with.Reads as reads
 use Rattle.global.proofs.responses.response_with.Lts as lts
-use Rattle.least.proofs.least_within.Reads as least-within-reads
+use Rattle.search.proofs.least_within.Reads as least-within-reads
 
 -- src/responses.rt:90:5
 least-within-requires : tie.Need-least-within-requires

@@ -14,7 +14,7 @@ use Rattle.global.proofs.rows.active_from.Statement.{statement}
 use Rattle.global.proofs.rows.active_from.Tie as tie
 use Rattle.global.proofs.rows.active_from.Reads as reads
 use Rattle.global.proofs.rows.active_from.Lts as lts
-use Rattle.least.proofs.least_after.Reads as least-after-reads
+use Rattle.search.proofs.least_after.Reads as least-after-reads
 use Rattle.least.proofs.round_up.Reads as round-up-reads
 
 -- What is computed from the periods of its own that have begun.

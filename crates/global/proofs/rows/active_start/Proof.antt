@@ -1,6 +1,6 @@
 -- `global::rows::active_start` meets its contract: nothing, or where the shares let the search stand. Assumes nothing.
 use native.Mathlib.Omega.{arith}
-use Rattle.least.proofs.ClimbLaws.{starts-nowhere}
+use Rattle.search.proofs.ClimbLaws.{starts-nowhere}
 use Rattle.least.proofs.ShareLaws.{standing-starts}
 use borrow.Author.Needs.{needs}
 use Rattle.global.proofs.rows.active_start.Statement.{statement}

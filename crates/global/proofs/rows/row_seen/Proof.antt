@@ -18,7 +18,7 @@ use Rattle.global.proofs.budgets.row_by_budgets.Reads as row-by-budgets
 use Rattle.global.proofs.rows.active_from.Reads as active-from-reads
 use Rattle.global.proofs.rows.active_row.Reads as active-row-reads
 use Rattle.global.proofs.rows.row_without.Reads as row-without-reads
-use Rattle.least.proofs.least_after.Reads as least-after-reads
+use Rattle.search.proofs.least_after.Reads as least-after-reads
 
 mul-cost : tie.Need-mul-cost
 mul-cost c = search needs

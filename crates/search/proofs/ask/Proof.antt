@@ -5,14 +5,14 @@ use borrow.Author.Needs.{needs}
 use mathlib.Core.Path.{_≡_, ap, ap₂, _∙_}
 use Prim.Native.Nat.{ℕ, _+_, _-_, _*_, _^_, _<_, _≤_}
 use lib.ListN.{getD}
 use Rattle.least.specs.Up.{up}
 use Rattle.least.specs.Search.{reach}
-use Rattle.least.proofs.CatchLaws.{once, never, costs-small, in-reach, ends-small, as-often, out-of-bound}
-use Rattle.least.proofs.after.ask.Statement.{statement}
-use Rattle.least.proofs.after.ask.Tie as tie
-use Rattle.least.proofs.after.ask.Reads as reads
-use Rattle.least.proofs.after.ask.Lts as lts
+use Rattle.search.proofs.CatchLaws.{once, never, costs-small, in-reach, ends-small, as-often, out-of-bound}
+use Rattle.search.proofs.ask.Statement.{statement}
+use Rattle.search.proofs.ask.Tie as tie
+use Rattle.search.proofs.ask.Reads as reads
+use Rattle.search.proofs.ask.Lts as lts
 use Rattle.least.proofs.round_up.Reads as round-up-reads
 use Rattle.numbers.proofs.wide.Reads as wide-reads
 
 -- Where once is not enough: how often it asks, and what for, as the code computes it.

@@ -4,16 +4,16 @@ use mathlib.Core.Path.{_≡_, ap}
 use mathlib.Core.Logic.{⊎-elim}
 use lib.ListN.{length, getD, set}
 use Rattle.lists.proofs.Turn.{turn-within, turn-less}
 use Rattle.least.specs.Up.{up}
 use Rattle.least.proofs.Up.{up-is-tight}
-use Rattle.least.proofs.AdvanceLaws.{Advancing, advances-from, asks-on, stays, sum-small, all-advanced}
+use Rattle.search.proofs.AdvanceLaws.{Advancing, advances-from, asks-on, stays, sum-small, all-advanced}
 use borrow.Author.Needs.{needs}
 use native.Mathlib.Omega.{arith}
-use Rattle.least.proofs.after.advanced.Statement.{statement}
-use Rattle.least.proofs.after.advanced.Tie as tie
-use Rattle.least.proofs.after.advanced.Reads as reads
-use Rattle.least.proofs.after.advanced.Lts as lts
+use Rattle.search.proofs.advanced.Statement.{statement}
+use Rattle.search.proofs.advanced.Tie as tie
+use Rattle.search.proofs.advanced.Reads as reads
+use Rattle.search.proofs.advanced.Lts as lts
 use Rattle.least.proofs.round_up.Reads as round-up-reads
 
 abbrev Inv-loop : tie.InvT-loop
 Inv-loop periods costs n ends₀ x start sum₀ t₀ ends sum t =

@@ -4,15 +4,15 @@ use mathlib.Core.Path.{_≡_, refl, ap, _∙_}
 use mathlib.Core.List.{List}
 use lib.ListN.{length, getD, length-set}
 use Rattle.lists.proofs.Filled.{Filled, filled-none, filled-more, filled-at}
 use Rattle.least.specs.Up.{up}
 use Rattle.least.proofs.Up.{up-is-tight}
 use borrow.Author.Needs.{needs}
 use native.Mathlib.Omega.{arith}
-use Rattle.least.proofs.after.ends_at.Statement.{statement}
-use Rattle.least.proofs.after.ends_at.Tie as tie
-use Rattle.least.proofs.after.ends_at.Reads as reads
-use Rattle.least.proofs.after.ends_at.Lts as lts
+use Rattle.search.proofs.ends_at.Statement.{statement}
+use Rattle.search.proofs.ends_at.Tie as tie
+use Rattle.search.proofs.ends_at.Reads as reads
+use Rattle.search.proofs.ends_at.Lts as lts
 use Rattle.least.proofs.round_up.Reads as round-up-reads
 
 -- What slot i is to have.
 abbrev EndOf : List ℕ → ℕ → ℕ → ℕ → Type 0

@@ -12,11 +12,11 @@ use lib.ListN.{length, getD, set, length-set}
 use lib.Seq.{getD-set-same}
 use Rattle.lists.specs.Range.{sumTo}
 use Rattle.lists.proofs.Over.{le-or-lt, sumTo-zero, sumTo-suc, sumTo-at-most}
 use Rattle.least.specs.Up.{up}
 use Rattle.least.specs.Demand.{loadIn, demand, total}
 use Rattle.least.specs.Search.{reach}
-use Rattle.least.specs.After.{Fit, slots, EndsAt, Advanced}
+use Rattle.search.specs.After.{Fit, slots, EndsAt, Advanced}
 use Rattle.least.proofs.Up.{up-holds, up-is-tight, up-is-least, up-mono, up-zero}
 
 -- The blocks of a longer time are those of a shorter one and those of what these do not hold.
 up-on : (a c b : ℕ) → 1 ≤ b → a ≤ c → up c b ≡ up a b + up (c - up a b * b) b

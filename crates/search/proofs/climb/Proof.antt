@@ -5,17 +5,17 @@ use mathlib.Core.Path.{_≡_, refl, _∙_}
 use mathlib.Core.List.{List}
 use mathlib.Core.Logic.{⊎-elim}
 use lib.ListN.{length}
-use Rattle.least.specs.After.{afterwards}
-use Rattle.least.proofs.ClimbLaws.{Climbing, climbs-from, climbs-start, total-starts, falls-behind, no-solution, climb-small, climbs-on, now-ahead, grows, too-far, settled}
-use Rattle.least.proofs.RoundLaws.{Round, round-begins, asked, listed, passes, goes-round, comes-back, left-over, less-by-asking, less-by-passing, less-by-going-round}
+use Rattle.search.specs.After.{afterwards}
+use Rattle.search.proofs.ClimbLaws.{Climbing, climbs-from, climbs-start, total-starts, falls-behind, no-solution, climb-small, climbs-on, now-ahead, grows, too-far, settled}
+use Rattle.search.proofs.RoundLaws.{Round, round-begins, asked, listed, passes, goes-round, comes-back, left-over, less-by-asking, less-by-passing, less-by-going-round}
 use borrow.Author.Needs.{needs}
 use native.Mathlib.Omega.{arith}
-use Rattle.least.proofs.after.climb.Statement.{statement}
-use Rattle.least.proofs.after.climb.Tie as tie
-use Rattle.least.proofs.after.climb.Reads as reads
-use Rattle.least.proofs.after.climb.Lts as lts
-use Rattle.least.proofs.after.advanced.Reads as advanced-reads
-use Rattle.least.proofs.after.ask.Reads as ask-reads
+use Rattle.search.proofs.climb.Statement.{statement}
+use Rattle.search.proofs.climb.Tie as tie
+use Rattle.search.proofs.climb.Reads as reads
+use Rattle.search.proofs.climb.Lts as lts
+use Rattle.search.proofs.advanced.Reads as advanced-reads
+use Rattle.search.proofs.ask.Reads as ask-reads
 use Rattle.numbers.proofs.wide.Reads as wide-reads
 
 abbrev Inv-loop : tie.InvT-loop

@@ -1,13 +1,13 @@
 -- `least::after::least_within` meets its contract: a solution lies within reach, so the search finds the least. Assumes nothing.
 use mathlib.Core.Logic.{inr}
-use Rattle.least.proofs.ClimbLaws.{within-bound}
+use Rattle.search.proofs.ClimbLaws.{within-bound}
 use borrow.Author.Needs.{needs}
 use native.Mathlib.Omega.{arith}
-use Rattle.least.proofs.after.least_within.Statement.{statement}
-use Rattle.least.proofs.after.least_within.Tie as tie
-use Rattle.least.proofs.after.least_within.Reads as reads
-use Rattle.least.proofs.after.least_within.Lts as lts
-use Rattle.least.proofs.after.climb.Reads as climb-reads
+use Rattle.search.proofs.least_within.Statement.{statement}
+use Rattle.search.proofs.least_within.Tie as tie
+use Rattle.search.proofs.least_within.Reads as reads
+use Rattle.search.proofs.least_within.Lts as lts
+use Rattle.search.proofs.climb.Reads as climb-reads
 
 -- src/after.rt:181:5
 climb-requires : tie.Need-climb-requires

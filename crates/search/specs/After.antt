@@ -5,9 +5,9 @@ use mathlib.Core.Path.{_≡_}
 use mathlib.Core.Logic.{_⊎_}
 use mathlib.Core.List.{List}
 use lib.ListN.{length, getD, set}
 use Rattle.least.specs.Up.{up}
 use Rattle.least.specs.Demand.{demand, total}
-use Rattle.least.specs.Search.{Loads, Stands, Comes-down, IsLeast, reach}
+use Rattle.least.specs.Search.{Loads, Stands, Starts, Comes-down, IsLeast, reach}
 
 -- Loads that ask for something and for no more than their period, which is below 2 ^ 20.
 pub record Fit (periods costs : List ℕ) (n : ℕ) : Type 0 where
@@ -48,11 +48,6 @@ pub record Waits (periods costs : List ℕ) (n y more : ℕ) : Type 0 where
 pub record Frees (periods costs frees : List ℕ) (n : ℕ) : Type 0 where
   pub with-free : n ≤ length frees
   pub is-free : (t : ℕ) → t < n → getD frees t 0 + getD costs t 0 ≡ getD periods t 0
-
--- No solution lies before `start`, where that is further on than the search has come: it may stand there. 0 stands for no such number.
-pub record Starts (f : ℕ → ℕ) (x start : ℕ) : Type 0 where
-  pub stands : x < start → Stands f start
-  pub within : start ≤ reach
 
 -- That search has the ends of the periods begun by y before it, what the loads leave free, and where it may stand.
 pub record After (periods costs frees ends : List ℕ) (n y more start : ℕ) : Type 0 where

@@ -7,8 +7,8 @@ use mathlib.Core.List.{List}
 use mathlib.Core.Logic.{_⊎_, inl, inr, ⊎-elim}
 use lib.ListN.{getD}
 use Rattle.lists.proofs.Over.{le-or-lt}
-use Rattle.least.specs.After.{slots}
-use Rattle.least.proofs.ClimbLaws.{Quiet}
+use Rattle.search.specs.After.{slots}
+use Rattle.search.proofs.ClimbLaws.{Quiet}
 
 -- In a pass to the end: the loads from the one that has asked last up to t are ahead of x.
 pub record ToEnd (ends : List ℕ) (x n last stop t : ℕ) : Type 0 where

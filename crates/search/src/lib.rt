@@ -1,15 +1,16 @@
 // Searches that go on where an earlier one ended. For each load the end of its last period that has begun is kept, so that a
 // load is looked at by one comparison: only where x has passed that end does it ask again, and then as often as it takes to be
-// ahead of x, which its own costs move on. No load is divided for at every step.
-use crate::REACH;
-use crate::round_up;
+// ahead of x, which its own costs move on. No load is divided for at every step. Every function here is proved, and the crate
+// assumes nothing.
+use least::REACH;
+use least::round_up;
 use numbers::wide;
 ghost use mathlib.Core.Path.{_≡_};
 ghost use Prim.Native.Nat.{_^_, _≤_, _<_};
 ghost use lib.ListN.{length, getD};
 ghost use Rattle.least.specs.Demand.{total};
 ghost use Rattle.least.specs.Search.{Comes-down, IsLeast, reach};
-ghost use Rattle.least.specs.After.{Fit, Periods, EndsAt, slots, afterwards, After, Bounded, Found, Behind, CaughtUp, Advanced};
+ghost use Rattle.search.specs.After.{Fit, Periods, EndsAt, slots, afterwards, After, Bounded, Found, Behind, CaughtUp, Advanced};
 
 // How many loads a search may have.
 pub const SLOTS: usize = 8;

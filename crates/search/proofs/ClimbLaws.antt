@@ -15,13 +15,13 @@ use lib.ListN.{length, getD, set, replicate}
 use lib.Seq.{getD-set-same}
 use Rattle.lists.specs.Range.{sumTo}
 use Rattle.lists.proofs.Over.{le-or-lt, sumTo-suc, sumTo-ext, sumTo-mono}
 use Rattle.least.specs.Up.{up}
 use Rattle.least.specs.Demand.{loadIn, demand, total}
-use Rattle.least.specs.Search.{Comes-down, IsLeast, reach}
-use Rattle.least.specs.After.{Fit, Periods, EndsAt, afterwards, Frees, Starts, After, Bounded, Found, Ahead, Within, Behind, CaughtUp, Advanced}
+use Rattle.least.specs.Search.{Comes-down, IsLeast, reach, Starts}
+use Rattle.search.specs.After.{Fit, Periods, EndsAt, afterwards, Frees, After, Bounded, Found, Ahead, Within, Behind, CaughtUp, Advanced}
 use Rattle.least.proofs.Up.{up-holds, up-is-least, up-mono, up-zero}
 use Rattle.least.proofs.Demand.{total-mono, loads-fewer}
 use Rattle.least.proofs.Search.{stands-below, least-exists}
 
 -- A sum of which one part is more by d.
 sum-more : (f g : ℕ → ℕ) (n t d : ℕ) → t < n → g t ≡ f t + d → ((j : ℕ) → j < n → (j ≡ t → ⊥) → g j ≡ f j) → sumTo g n ≡ sumTo f n + d

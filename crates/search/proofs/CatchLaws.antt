@@ -9,10 +9,10 @@ use mathlib.Core.List.{List}
 use lib.Dec.{lit<}
 use lib.ListN.{getD, set, length-set}
 use Rattle.lists.proofs.Over.{le-or-lt}
 use Rattle.least.specs.Up.{up}
 use Rattle.least.specs.Search.{reach}
-use Rattle.least.specs.After.{Ahead, Behind, CaughtUp}
+use Rattle.search.specs.After.{Ahead, Behind, CaughtUp}
 use Rattle.least.proofs.Up.{up-holds, up-is-tight, up-is-least, up-at-most}
 
 module _ (ends : List ℕ) (t x period cost free bound : ℕ) (b : Behind (getD ends t 0) x period cost free bound) where
   abbrev end : ℕ

@@ -2,11 +2,11 @@
 use mathlib.Core.Logic.{inl}
 use native.Mathlib.Omega.{arith}
 use borrow.Author.Needs.{needs}
-use Rattle.least.proofs.after.least_after.Statement.{statement}
-use Rattle.least.proofs.after.least_after.Tie as tie
-use Rattle.least.proofs.after.least_after.Reads as reads
-use Rattle.least.proofs.after.least_after.Lts as lts
-use Rattle.least.proofs.after.climb.Reads as climb-reads
+use Rattle.search.proofs.least_after.Statement.{statement}
+use Rattle.search.proofs.least_after.Tie as tie
+use Rattle.search.proofs.least_after.Reads as reads
+use Rattle.search.proofs.least_after.Lts as lts
+use Rattle.search.proofs.climb.Reads as climb-reads
 use Rattle.numbers.proofs.wide.Reads as wide-reads
 
 -- src/after.rt:162:59

@@ -1,0 +1,2 @@
+-- A search that goes on from an earlier one: what it starts with and what it finds.
+pub mod After
