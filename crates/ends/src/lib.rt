@@ -20,11 +20,11 @@ ghost use Rattle.outer.specs.Interfaces.{interfacesIn};
 ghost use Rattle.outer.specs.Blocking.{blocking};
 ghost use Rattle.outer.specs.Common.{commonOf};
 ghost use Rattle.outer.specs.Sound.{Sound};
-ghost use Rattle.global.specs.View.{viewOf, held};
-ghost use Rattle.global.specs.Ends.{ahead, budgetEnd, jobEnd};
-ghost use Rattle.global.specs.JobCount.{jobCount};
-ghost use Rattle.global.specs.Computed.{Budget-over};
-ghost use Rattle.global.specs.Sound.{Counted};
+ghost use Rattle.job.specs.View.{viewOf, held};
+ghost use Rattle.job.specs.Ends.{ahead, budgetEnd, jobEnd};
+ghost use Rattle.job.specs.JobCount.{jobCount};
+ghost use Rattle.job.specs.Computed.{Budget-over};
+ghost use Rattle.job.specs.Sound.{Counted};
 
 // B(s), from what the rows share.
 fn blocking_in(

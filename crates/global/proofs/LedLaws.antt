@@ -19,14 +19,14 @@ use Rattle.table.specs.Limits.{horizon}
 use Rattle.outer.specs.Blocking.{numberOr}
 use Rattle.outer.specs.Leading.{led}
 use Rattle.outer.proofs.LeadingLaws.{leads-or-not, leader-of}
-use Rattle.global.specs.View.{View, resources, held, ceiling, overrun, cost}
-use Rattle.global.specs.Ends.{activePeriod, jobs, ahead, budgetEnd, shutOut, jobEnd}
-use Rattle.global.specs.Response.{firstAt, responseWith, jobResponse, jobResource, response, worstJob}
+use Rattle.job.specs.View.{View, resources, held, ceiling, overrun, cost}
+use Rattle.job.specs.Ends.{activePeriod, jobs, ahead, budgetEnd, shutOut, jobEnd}
+use Rattle.job.specs.Response.{firstAt, responseWith, jobResponse, jobResource, response, worstJob}
 use Rattle.global.specs.Row.{judged, rowWith, rowWithout, rowFor}
-use Rattle.global.specs.Sound.{Sound-view, Counted}
-use Rattle.global.proofs.FirstAtLaws.{largest-led, firstAt-led, firstAt-ext, firstAt-below}
-use Rattle.global.proofs.ActiveLaws.{some-job}
-use Rattle.global.proofs.JobEndLaws.{jobTotal, job-end-is-least, released-before-job-end}
+use Rattle.job.specs.Sound.{Sound-view, Counted}
+use Rattle.job.proofs.FirstAtLaws.{largest-led, firstAt-led, firstAt-ext, firstAt-below}
+use Rattle.job.proofs.ActiveLaws.{some-job}
+use Rattle.job.proofs.JobEndLaws.{jobTotal, job-end-is-least, released-before-job-end}
 
 -- The view in which only the resources that lead count as held.
 abbrev pub ledView : View → View

@@ -21,15 +21,15 @@ use Rattle.least.proofs.LeastLaws.{least-found, least-nowhere}
 use Rattle.search.proofs.ClimbLaws.{starts-nowhere}
 use Rattle.table.specs.Limits.{most, horizon}
 use Rattle.outer.specs.Blocking.{numberOr}
-use Rattle.global.specs.declared.responses.Job.{Job}
-use Rattle.global.specs.View.{View, overrun, cost}
-use Rattle.global.specs.Ends.{activePeriod, jobs, ahead, budgetEnd}
-use Rattle.global.specs.Computed.{jobOf}
-use Rattle.global.specs.Sound.{Sound-view, First-end}
-use Rattle.global.proofs.ActiveLaws.{period-pos, higher-loads, activeTotal, active-total}
-use Rattle.global.proofs.BudgetEndLaws.{budgetTotal, budget-total, budget-starts, stands-after}
-use Rattle.global.proofs.WaitLaws.{frees-fewer, left-after, waits-after}
-use Rattle.global.proofs.ResponseLaws.{job-without}
+use Rattle.job.specs.declared.Job.{Job}
+use Rattle.job.specs.View.{View, overrun, cost}
+use Rattle.job.specs.Ends.{activePeriod, jobs, ahead, budgetEnd}
+use Rattle.job.specs.Computed.{jobOf}
+use Rattle.job.specs.Sound.{Sound-view, First-end}
+use Rattle.job.proofs.ActiveLaws.{period-pos, higher-loads, activeTotal, active-total}
+use Rattle.job.proofs.BudgetEndLaws.{budgetTotal, budget-total, budget-starts, stands-after}
+use Rattle.job.proofs.WaitLaws.{frees-fewer, left-after, waits-after}
+use Rattle.job.proofs.ResponseLaws.{job-without}
 
 -- No job before k is over by the next one's release: there is more to do then than time has passed.
 abbrev pub Busy : View → ℕ → Type 0

@@ -10,13 +10,13 @@ use Rattle.least.proofs.ShareLaws.{no-least-beyond}
 use Rattle.table.specs.Limits.{horizon}
 use Rattle.global.specs.declared.Outcome.{Outcome}
 use Rattle.global.specs.declared.Outcome.the-variants.{None}
-use Rattle.global.specs.declared.responses.Worst.{Worst}
-use Rattle.global.specs.View.{View, overrun, cost}
-use Rattle.global.specs.Ends.{activePeriod, jobs}
-use Rattle.global.specs.Response.{response}
+use Rattle.job.specs.declared.Worst.{Worst}
+use Rattle.job.specs.View.{View, overrun, cost}
+use Rattle.job.specs.Ends.{activePeriod, jobs}
+use Rattle.job.specs.Response.{response}
 use Rattle.global.specs.Row.{judged, rowWith, rowWithout, rowFor}
-use Rattle.global.specs.Sound.{Sound-view}
-use Rattle.global.specs.Computed.{worstOf}
+use Rattle.job.specs.Sound.{Sound-view}
+use Rattle.job.specs.Computed.{worstOf}
 
 module _ (v : View) where
   -- The row where the search has found none.

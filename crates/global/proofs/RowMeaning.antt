@@ -17,16 +17,16 @@ use Rattle.least.specs.Demand.{total}
 use Rattle.least.proofs.LeastLaws.{least-none}
 use Rattle.table.specs.Limits.{horizon}
 use Rattle.global.specs.declared.Outcome.the-variants.{Fits, Late, None}
-use Rattle.global.specs.View.{View, resources, held, overrun}
-use Rattle.global.specs.Ends.{activePeriod, jobs, jobEnd}
-use Rattle.global.specs.Response.{firstAt, responseWith, jobResponse, jobResource, response, worstJob}
+use Rattle.job.specs.View.{View, resources, held, overrun}
+use Rattle.job.specs.Ends.{activePeriod, jobs, jobEnd}
+use Rattle.job.specs.Response.{firstAt, responseWith, jobResponse, jobResource, response, worstJob}
 use Rattle.global.specs.Row.{judged, rowWith, rowWithout, rowFor}
-use Rattle.global.specs.Sound.{Sound-view, Counted}
-use Rattle.global.proofs.FirstAtLaws.{by-first, firstAt-below}
-use Rattle.global.proofs.ActiveLaws.{held-at-most}
-use Rattle.global.proofs.JobEndLaws.{released-before-job-end}
+use Rattle.job.specs.Sound.{Sound-view, Counted}
+use Rattle.job.proofs.FirstAtLaws.{by-first, firstAt-below}
+use Rattle.job.proofs.ActiveLaws.{held-at-most}
+use Rattle.job.proofs.JobEndLaws.{released-before-job-end}
 use Rattle.global.proofs.LedLaws.{some-held, response-of-some}
-use Rattle.global.proofs.ResponseLaws.{response-with, resource-with}
+use Rattle.job.proofs.ResponseLaws.{response-with, resource-with}
 
 -- The first place at which f is at its largest reaches it, and no place before does.
 module _ (f : ℕ → ℕ) (n : ℕ) (some-there : 0 < n) where

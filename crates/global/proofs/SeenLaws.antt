@@ -17,13 +17,13 @@ use Rattle.outer.specs.Sound.{Sound}
 use Rattle.outer.proofs.Slots.{resources-of, period-of-slot, budget-of-slot, holding-of-slot}
 use Rattle.outer.proofs.CommonLaws.{take-padded}
 use Rattle.global.specs.declared.Row.{Row}
-use Rattle.global.specs.declared.responses.Own.{Own}
-use Rattle.global.specs.View.{View, viewOf, resources, held, ceiling}
-use Rattle.global.specs.Ends.{activePeriod}
+use Rattle.job.specs.declared.Own.{Own}
+use Rattle.job.specs.View.{View, viewOf, resources, held, ceiling}
+use Rattle.job.specs.Ends.{activePeriod}
 use Rattle.global.specs.Row.{rowFor, rowOf}
-use Rattle.global.specs.Computed.{seenBy}
-use Rattle.global.specs.Sound.{Sound-view}
-use Rattle.global.proofs.ViewLaws.{view-sound, resources-seen, held-seen, ceiling-seen}
+use Rattle.job.specs.Computed.{seenBy}
+use Rattle.job.specs.Sound.{Sound-view}
+use Rattle.job.proofs.ViewLaws.{view-sound, resources-seen, held-seen, ceiling-seen}
 use Rattle.global.proofs.LedLaws.{ledView, led-sound, row-led}
 
 -- Which resources lead depends on the resources in use alone.

@@ -1,8 +1,2 @@
--- What one subsystem has before it; steps 7 to 11; the row.
-pub mod View
-pub mod Ends
-pub mod JobCount
-pub mod Response
+-- The row.
 pub mod Row
-pub mod Computed
-pub mod Sound

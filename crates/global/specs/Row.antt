@@ -7,9 +7,9 @@ use Rattle.outer.specs.Interfaces.{InterfacesM}
 use Rattle.global.specs.declared.Outcome.{Outcome}
 use Rattle.global.specs.declared.Outcome.the-variants.{Fits, Late, None}
 use Rattle.global.specs.declared.Row.{Row}
-use Rattle.global.specs.View.{View, viewOf, overrun}
-use Rattle.global.specs.Ends.{activePeriod, jobs}
-use Rattle.global.specs.Response.{response, worstJob, jobResource}
+use Rattle.job.specs.View.{View, viewOf, overrun}
+use Rattle.job.specs.Ends.{activePeriod, jobs}
+use Rattle.job.specs.Response.{response, worstJob, jobResource}
 
 -- R, as a row reports it, for each outcome.
 abbrev pub reported : Outcome → ℕ

@@ -1,12 +1,12 @@
 // The row of a subsystem that holds nothing. Its jobs end with their budgets, so that the active period, which ends with the first job
 // that is over by the next one's release, is found on the way from job to job and need not be searched for.
 use crate::Row;
-use crate::responses::Job;
-use crate::responses::Own;
-use crate::responses::Worst;
-use crate::responses::worse;
 use crate::rows::judge;
 use crate::rows::row_without;
+use job::Job;
+use job::Own;
+use job::Worst;
+use job::worse;
 use numbers::wide;
 use search::least_after;
 use table::Table;
@@ -16,10 +16,10 @@ ghost use Prim.Native.Nat.{_+_, _^_, _≤_, _<_};
 ghost use lib.ListN.{getD};
 ghost use Rattle.least.specs.Search.{reach};
 ghost use Rattle.search.specs.After.{Frees};
-ghost use Rattle.global.specs.Ends.{activePeriod};
+ghost use Rattle.job.specs.Ends.{activePeriod};
 ghost use Rattle.global.specs.Row.{rowFor};
-ghost use Rattle.global.specs.Computed.{seenBy};
-ghost use Rattle.global.specs.Sound.{Sound-view, First-end};
+ghost use Rattle.job.specs.Computed.{seenBy};
+ghost use Rattle.job.specs.Sound.{Sound-view, First-end};
 
 // Whether nothing is held and the first budget ends some periods late at the most: the jobs are gone through without further ado.
 pub(crate) fn on_the_way(own: Own, cost: u32, first: u32) -> bool

@@ -1,8 +1,7 @@
-// Steps 7 to 11 over interfaces alone: active period, jobs, budget ends, job ends, responses and rows. Interfaces, their outer
-// ceilings and blocking are crate `outer`'s; crate `ends` asks about single jobs. Every function here is proved, and the crate
-// assumes nothing. Indices count from 0; document 01 counts from 1.
+// Rows over interfaces alone: the active period (step 7), and with crate `responses` what comes of its jobs (steps 8 to 11).
+// Interfaces, their outer ceilings and blocking are crate `outer`'s; crate `ends` asks about single jobs. Every function here
+// is proved, and the crate assumes nothing. Indices count from 0; document 01 counts from 1.
 mod budgets;
-mod responses;
 mod rows;
 
 pub use rows::row_of;

@@ -4,8 +4,7 @@ use crate::Row;
 use crate::budgets::nearly_all;
 use crate::budgets::on_the_way;
 use crate::budgets::row_by_budgets;
-use crate::responses::Own;
-use crate::responses::largest_response;
+use job::Own;
 use least::round_up;
 use least::spare_of;
 use least::standing;
@@ -13,6 +12,7 @@ use outer::interfaces::WIDTH;
 use outer::interfaces::budget;
 use outer::interfaces::period;
 use outer::leading::leading;
+use responses::largest_response;
 use search::least_after;
 use table::Table;
 ghost use mathlib.Core.Path.{_≡_};
@@ -25,13 +25,13 @@ ghost use Rattle.least.specs.Share.{Fitting};
 ghost use Prim.Native.Nat.{ℕ, _+_, _-_, _≤_, _<_};
 ghost use Rattle.outer.specs.Interfaces.{interfacesIn};
 ghost use Rattle.global.specs.declared.Outcome.the-variants.{None};
-ghost use Rattle.global.specs.Ends.{activePeriod};
+ghost use Rattle.job.specs.Ends.{activePeriod};
 ghost use Rattle.global.specs.Row.{judged, rowFor, rowOf};
 ghost use Rattle.outer.specs.Blocking.{blocking};
 ghost use Rattle.outer.specs.Common.{Lent};
-ghost use Rattle.global.specs.Computed.{seenBy};
+ghost use Rattle.job.specs.Computed.{seenBy};
 ghost use Rattle.outer.specs.Sound.{Sound};
-ghost use Rattle.global.specs.Sound.{Sound-view, First-end, Active};
+ghost use Rattle.job.specs.Sound.{Sound-view, First-end, Active};
 
 // A row fits where its response is within the period, else it is late.
 pub(crate) fn judge(period: u32, response: u32) -> Outcome

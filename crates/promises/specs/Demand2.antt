@@ -30,11 +30,11 @@ use Rattle.outer.specs.Blocking.{blocking as step6}
 use Rattle.global.specs.declared.Outcome.{Outcome}
 use Rattle.global.specs.declared.Outcome.the-variants.{Fits, Late, None}
 use Rattle.global.specs.declared.Row.{Row}
-use Rattle.global.specs.View.{View, viewOf, resources, held as heldIn, overrun as rowOverrun}
-use Rattle.global.specs.Ends.{activePeriod, jobs, budgetEnd, jobEnd}
-use Rattle.global.specs.Response.{response as step11, worstJob, jobResource, jobResponse, responseWith}
+use Rattle.job.specs.View.{View, viewOf, resources, held as heldIn, overrun as rowOverrun}
+use Rattle.job.specs.Ends.{activePeriod, jobs, budgetEnd, jobEnd}
+use Rattle.job.specs.Response.{response as step11, worstJob, jobResource, jobResponse, responseWith}
 use Rattle.global.specs.Row.{rowOf, rowFor, rowWith, rowWithout, judged, reported}
-use Rattle.global.proofs.ViewLaws.{overrun-seen, held-seen, resources-seen}
+use Rattle.job.proofs.ViewLaws.{overrun-seen, held-seen, resources-seen}
 use Rattle.report.specs.Interfaces.{interfacesFrom}
 use Rattle.report.proofs.SoundLaws.{period-shown, overrun-shown, holding-shown}
 use Rattle.report.specs.declared.Report.{Report}

@@ -13,9 +13,9 @@ use Rattle.least.specs.Least.{solves, least}
 use Rattle.outer.specs.Interfaces.{InterfacesM}
 use Rattle.outer.specs.Parts.{count, interfaceOf, periodOf, budgetOf, holdingOf, holding as overrunOf, costOf, periods, costs}
 use Rattle.outer.specs.Blocking.{accesses, outerCeiling, reaching, blockingBy, blocking}
-use Rattle.global.specs.View.{View, viewOf, held, ceiling, overrun, cost}
-use Rattle.global.specs.Ends.{activePeriod, jobs, ahead, budgetEnd, shutOut, jobEnd}
-use Rattle.global.specs.Response.{firstAt, responseWith, jobResponse, jobResource, response, worstJob}
+use Rattle.job.specs.View.{View, viewOf, held, ceiling, overrun, cost}
+use Rattle.job.specs.Ends.{activePeriod, jobs, ahead, budgetEnd, shutOut, jobEnd}
+use Rattle.job.specs.Response.{firstAt, responseWith, jobResponse, jobResource, response, worstJob}
 use Rattle.global.specs.Row.{rowOf, rowFor, rowWith, rowWithout, judged, reported}
 use Rattle.report.specs.Interfaces.{interfaceFrom, interfaceAt, interfacesFrom}
 use Rattle.global.specs.declared.Row.{Row}

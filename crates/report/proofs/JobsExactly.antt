@@ -14,11 +14,11 @@ use Rattle.rules.specs.declared.Judged.the-variants.{Admitted, Refused}
 use Rattle.rules.specs.Holding.{resourceHolding}
 use Rattle.rules.specs.Rules.{judgeOf}
 use Rattle.outer.specs.Parts.{count}
-use Rattle.global.specs.View.{viewOf, resources, held}
-use Rattle.global.specs.Ends.{budgetEnd, jobEnd}
-use Rattle.global.specs.JobCount.{jobCount}
-use Rattle.global.proofs.ViewLaws.{resources-seen, held-seen}
-use Rattle.global.proofs.EndsLaws.{counted-below, counted-is-below}
+use Rattle.job.specs.View.{viewOf, resources, held}
+use Rattle.job.specs.Ends.{budgetEnd, jobEnd}
+use Rattle.job.specs.JobCount.{jobCount}
+use Rattle.job.proofs.ViewLaws.{resources-seen, held-seen}
+use Rattle.job.proofs.EndsLaws.{counted-below, counted-is-below}
 use Rattle.report.specs.declared.jobs.JobEnd.{JobEnd}
 use Rattle.report.specs.declared.jobs.JobEnd.the-variants.{At, Nothing}
 use Rattle.report.specs.Interfaces.{interfacesFrom}

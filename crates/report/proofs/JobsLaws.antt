@@ -11,9 +11,9 @@ use Rattle.rules.specs.declared.Rule.{Rule}
 use Rattle.rules.specs.declared.Place.{Place}
 use Rattle.rules.specs.Rules.{judgeOf}
 use Rattle.outer.specs.Parts.{count}
-use Rattle.global.specs.View.{View, viewOf, resources, held}
-use Rattle.global.specs.Ends.{budgetEnd, jobEnd}
-use Rattle.global.specs.JobCount.{jobCount}
+use Rattle.job.specs.View.{View, viewOf, resources, held}
+use Rattle.job.specs.Ends.{budgetEnd, jobEnd}
+use Rattle.job.specs.JobCount.{jobCount}
 use Rattle.report.specs.declared.jobs.JobEnd.{JobEnd}
 use Rattle.report.specs.declared.jobs.JobEnd.the-variants.{At, Nothing}
 use Rattle.report.specs.Interfaces.{interfacesFrom}

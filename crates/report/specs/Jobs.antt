@@ -13,10 +13,10 @@ use Rattle.rules.specs.Rules.{judgeOf}
 use Rattle.rules.specs.Holding.{resourceHolding}
 use Rattle.outer.specs.Interfaces.{InterfacesM}
 use Rattle.outer.specs.Parts.{count}
-use Rattle.global.specs.View.{View, viewOf, held}
-use Rattle.global.specs.Ends.{budgetEnd, jobEnd}
-use Rattle.global.specs.JobCount.{jobCount}
-use Rattle.global.specs.Sound.{Counted}
+use Rattle.job.specs.View.{View, viewOf, held}
+use Rattle.job.specs.Ends.{budgetEnd, jobEnd}
+use Rattle.job.specs.JobCount.{jobCount}
+use Rattle.job.specs.Sound.{Counted}
 use Rattle.report.specs.declared.jobs.JobEnd.{JobEnd}
 use Rattle.report.specs.declared.jobs.JobEnd.the-variants.{At, Nothing}
 use Rattle.report.specs.Interfaces.{interfacesFrom}

@@ -8,7 +8,7 @@ ghost use Rattle.rules.specs.Admitted.{SoundSystem};
 ghost use Rattle.outer.specs.Interfaces.{interfacesIn};
 ghost use Rattle.outer.specs.Common.{commonOf};
 ghost use Rattle.outer.specs.Sound.{Sound};
-ghost use Rattle.global.specs.View.{viewOf};
+ghost use Rattle.job.specs.View.{viewOf};
 ghost use Rattle.rules.specs.declared.Judged.the-variants.{Admitted};
 ghost use Rattle.rules.specs.Rules.{countsJudged};
 ghost use Rattle.report.specs.Jobs.{endOf, jobEndOf};

@@ -6,8 +6,8 @@ use denote.Ref.{now}
 use borrow.Author.Needs.{needs}
 use Rattle.table.specs.Limits.{most}
 use Rattle.outer.proofs.Slots.{few-of}
-use Rattle.global.proofs.ActiveLaws.{active-within}
-use Rattle.global.proofs.LentLaws.{lent-sound, ahead-lent, jobs-before}
+use Rattle.job.proofs.ActiveLaws.{active-within}
+use Rattle.job.proofs.LentLaws.{lent-sound, ahead-lent, jobs-before}
 use Rattle.ends.proofs.ahead_of_job.Statement.{statement}
 use Rattle.ends.proofs.ahead_of_job.Tie as tie
 

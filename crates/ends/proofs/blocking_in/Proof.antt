@@ -4,7 +4,7 @@ use native.Mathlib.Omega.{arith}
 use denote.Ref.{now}
 use Rattle.table.specs.Limits.{most}
 use Rattle.outer.proofs.Slots.{few-of}
-use Rattle.global.proofs.LentLaws as lent
+use Rattle.job.proofs.LentLaws as lent
 use Rattle.ends.proofs.blocking_in.Statement.{statement}
 use Rattle.ends.proofs.blocking_in.Tie as tie
 

@@ -6,10 +6,10 @@ use denote.Ref.{now}
 use Rattle.search.specs.After.{Frees}
 use Rattle.outer.specs.Interfaces.{interfacesIn}
 use Rattle.outer.proofs.SharedLaws.{used-length}
-use Rattle.global.specs.View.{viewOf}
-use Rattle.global.specs.Sound.{Sound-view}
-use Rattle.global.proofs.LentLaws as lent
-use Rattle.global.proofs.EndsLaws.{ahead-small, budget-lent, budget-at}
+use Rattle.job.specs.View.{viewOf}
+use Rattle.job.specs.Sound.{Sound-view}
+use Rattle.job.proofs.LentLaws as lent
+use Rattle.job.proofs.EndsLaws.{ahead-small, budget-lent, budget-at}
 use native.Mathlib.Omega.{arith}
 use borrow.Author.Needs.{needs}
 use Rattle.ends.proofs.budget_end.Statement.{statement}

@@ -11,11 +11,11 @@ use Rattle.table.specs.Limits.{most}
 use Rattle.outer.specs.Interfaces.{interfacesIn}
 use Rattle.outer.proofs.Slots.{few-of, few-resources-of}
 use Rattle.outer.proofs.SharedLaws.{used-length}
-use Rattle.global.specs.View.{viewOf}
-use Rattle.global.specs.Sound.{Sound-view}
-use Rattle.global.proofs.LentLaws as lent
-use Rattle.global.proofs.WaitLaws.{frees-fewer}
-use Rattle.global.proofs.EndsLaws.{after-lent, job-at}
+use Rattle.job.specs.View.{viewOf}
+use Rattle.job.specs.Sound.{Sound-view}
+use Rattle.job.proofs.LentLaws as lent
+use Rattle.job.proofs.WaitLaws.{frees-fewer}
+use Rattle.job.proofs.EndsLaws.{after-lent, job-at}
 use Rattle.ends.proofs.job_end.Statement.{statement}
 use Rattle.ends.proofs.job_end.Tie as tie
 

@@ -12,11 +12,11 @@ use Rattle.table.specs.Limits.{most}
 use Rattle.outer.specs.Interfaces.{interfacesIn}
 use Rattle.outer.proofs.Slots.{few-of}
 use Rattle.outer.proofs.SharedLaws.{used-length}
-use Rattle.global.specs.View.{View, viewOf}
-use Rattle.global.specs.Sound.{Sound-view, Active}
-use Rattle.global.proofs.ActiveLaws.{active-from, period-pos}
-use Rattle.global.proofs.LentLaws as lent
-use Rattle.global.proofs.EndsLaws.{once-fits, active-lent, active-at, jobs-with, jobs-without}
+use Rattle.job.specs.View.{View, viewOf}
+use Rattle.job.specs.Sound.{Sound-view, Active}
+use Rattle.job.proofs.ActiveLaws.{active-from, period-pos}
+use Rattle.job.proofs.LentLaws as lent
+use Rattle.job.proofs.EndsLaws.{once-fits, active-lent, active-at, jobs-with, jobs-without}
 use native.Mathlib.Omega.{arith}
 use borrow.Author.Needs.{needs}
 use Rattle.ends.proofs.jobs_of.Statement.{statement}

@@ -7,12 +7,12 @@ use native.Mathlib.Omega.{arith}
 use mathlib.Core.Path.{_≡_, sym, ap, _∙_}
 use borrow.Author.Needs.{needs}
 use Rattle.table.specs.Limits.{horizon}
-use Rattle.global.specs.View.{View, overrun}
+use Rattle.job.specs.View.{View, overrun}
 use Rattle.global.specs.Row.{rowFor}
-use Rattle.global.specs.Computed.{seenBy, worstOf}
-use Rattle.global.proofs.ActiveLaws.{period-pos}
-use Rattle.global.proofs.BestLaws.{worst-first, worst-step}
-use Rattle.global.proofs.ResponseLaws.{no-overrun}
+use Rattle.job.specs.Computed.{seenBy, worstOf}
+use Rattle.job.proofs.ActiveLaws.{period-pos}
+use Rattle.job.proofs.BestLaws.{worst-first, worst-step}
+use Rattle.job.proofs.ResponseLaws.{no-overrun}
 use Rattle.global.proofs.RowLaws.{row-with, row-without}
 use Rattle.global.proofs.OnTheWayLaws.{Reached, reached-first, job-reached, last-job, active-reached, next-after, reached-next, nothing-reached}
 use Rattle.global.proofs.budgets.row_by_budgets.Statement.{statement}

@@ -4,10 +4,10 @@ use mathlib.Core.Path.{_≡_, ap, ap₂}
 use lib.ListN.{getD, set}
 use Rattle.least.specs.Up.{up}
 use Rattle.least.proofs.Up.{up-is-tight}
-use Rattle.global.specs.View.{View, cost}
-use Rattle.global.specs.Computed.{seenBy}
-use Rattle.global.proofs.ActiveLaws.{period-pos}
-use Rattle.global.proofs.WaitLaws.{own-holds, own-small, blocking-left, active-after, active-found}
+use Rattle.job.specs.View.{View, cost}
+use Rattle.job.specs.Computed.{seenBy}
+use Rattle.job.proofs.ActiveLaws.{period-pos}
+use Rattle.job.proofs.WaitLaws.{own-holds, own-small, blocking-left, active-after, active-found}
 use native.Mathlib.Omega.{arith}
 use borrow.Author.Needs.{needs}
 use Rattle.global.proofs.rows.active_from.Statement.{statement}

@@ -1,6 +1,6 @@
 -- `global::rows::active_row` meets its contract: its parts do. Assumes nothing.
-use Rattle.global.specs.Ends.{jobs}
-use Rattle.global.proofs.ActiveLaws.{period-pos, active-from}
+use Rattle.job.specs.Ends.{jobs}
+use Rattle.job.proofs.ActiveLaws.{period-pos, active-from}
 use Rattle.global.proofs.RowLaws.{budget-below, overrun-computed, row-with}
 use native.Mathlib.Omega.{arith}
 use borrow.Author.Needs.{needs}
@@ -8,7 +8,7 @@ use Rattle.global.proofs.rows.active_row.Statement.{statement}
 use Rattle.global.proofs.rows.active_row.Tie as tie
 use Rattle.global.proofs.rows.active_row.Reads as reads
 use Rattle.global.proofs.rows.active_row.Lts as lts
-use Rattle.global.proofs.responses.largest_response.Reads as largest-response-reads
+use Rattle.responses.proofs.largest_response.Reads as largest-response-reads
 use Rattle.global.proofs.rows.judge.Reads as judge-reads
 use Rattle.least.proofs.round_up.Reads as round-up-reads
 

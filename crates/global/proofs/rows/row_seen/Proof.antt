@@ -4,7 +4,7 @@ use mathlib.Core.Path.{sym, ap, _∙_}
 use mathlib.Core.Logic.{⊎-elim}
 use Rattle.global.specs.Row.{rowFor}
 use Rattle.global.proofs.RowLaws.{budget-below, overrun-computed, row-without}
-use Rattle.global.proofs.WaitLaws.{after-none, first-ahead, first-small, first-beyond, first-end}
+use Rattle.job.proofs.WaitLaws.{after-none, first-ahead, first-small, first-beyond, first-end}
 use borrow.Author.Needs.{needs}
 use borrow.Author.Tests.{not-false}
 use native.Mathlib.Omega.{arith}

@@ -9,7 +9,7 @@ use Rattle.table.proofs.GridLaws.{count-of-grid}
 use Rattle.rules.proofs.Sound.{admitted-is-sound}
 use Rattle.outer.specs.Interfaces.{InterfacesM}
 use Rattle.outer.proofs.in_common.Reads as in-common-reads
-use Rattle.global.specs.View.{viewOf}
+use Rattle.job.specs.View.{viewOf}
 use Rattle.report.specs.Jobs.{endOf}
 use Rattle.report.proofs.SoundLaws.{count-of-interfaces}
 use Rattle.report.proofs.InterfaceLaws.{sound-lines}

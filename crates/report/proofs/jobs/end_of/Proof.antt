@@ -7,10 +7,10 @@ use borrow.Author.Needs.{needs}
 use Rattle.table.specs.Limits.{most}
 use Rattle.outer.specs.Interfaces.{heldAt, interfacesIn}
 use Rattle.outer.proofs.Slots.{few-of, few-resources-of, resources-of}
-use Rattle.global.specs.View.{viewOf, resources, held}
-use Rattle.global.proofs.ViewLaws.{resources-seen}
-use Rattle.global.proofs.LentLaws.{held-lent}
-use Rattle.global.proofs.EndsLaws.{counted-below}
+use Rattle.job.specs.View.{viewOf, resources, held}
+use Rattle.job.proofs.ViewLaws.{resources-seen}
+use Rattle.job.proofs.LentLaws.{held-lent}
+use Rattle.job.proofs.EndsLaws.{counted-below}
 use Rattle.report.proofs.JobsLaws.{held-past, no-job, ends-with-budget, never-held, ends-with-resource}
 use Rattle.report.proofs.jobs.end_of.Statement.{statement}
 use Rattle.report.proofs.jobs.end_of.Tie as tie

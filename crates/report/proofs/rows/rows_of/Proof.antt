@@ -18,7 +18,7 @@ use Rattle.report.proofs.rows.rows_of.Lts as lts
 use Rattle.outer.proofs.fitting_of.Reads as fitting-of-reads
 use Rattle.outer.proofs.in_common.Reads as in-common-reads
 use Rattle.outer.proofs.SharedLaws.{used-length}
-use Rattle.global.proofs.LentLaws as lent
+use Rattle.job.proofs.LentLaws as lent
 use Rattle.global.proofs.row_of.Reads as row-of-reads
 use Rattle.local.proofs.first_failing_task.Reads as first-failing-task-reads
 use Rattle.report.proofs.interface.interfaces_of.Reads as interfaces-of-reads

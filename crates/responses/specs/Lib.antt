@@ -1,0 +1,2 @@
+-- What is known of the jobs while they are gone through.
+pub mod Known
