@@ -13,7 +13,8 @@ use Rattle.rules.specs.declared.Judged.the-variants.{Admitted, Refused}
 use Rattle.rules.specs.Rules.{judgeOf}
 use Rattle.rules.proofs.Sound.{admitted-is-sound}
 use Rattle.global.specs.declared.Row.{Row}
-use Rattle.report.specs.Report.{rowAt, noRow, reportFor, reportOf}
+use Rattle.rows.specs.Rows.{rowAt, noRow}
+use Rattle.report.specs.Report.{reportFor, reportOf}
 use Rattle.stored.specs.declared.ReadAnswer.{ReadAnswer}
 use Rattle.stored.specs.declared.ReadAnswer.the-variants.{Whole, Refused as RefusedFile}
 use Rattle.stored.specs.File.{numberBytes}

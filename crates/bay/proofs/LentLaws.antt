@@ -10,7 +10,8 @@ use Rattle.table.specs.Meaning.{System, meaning}
 use Rattle.table.specs.Parts.{subsystemCount}
 use Rattle.global.specs.declared.Row.{Row}
 use Rattle.report.specs.declared.Report.{Report}
-use Rattle.report.specs.Report.{noRow, reportOf}
+use Rattle.rows.specs.Rows.{noRow}
+use Rattle.report.specs.Report.{reportOf}
 use Rattle.stored.specs.declared.Fault.{Fault}
 use Rattle.stored.specs.declared.FileRefusal.{FileRefusal}
 use Rattle.stored.specs.declared.ReadAnswer.{ReadAnswer}

@@ -13,7 +13,8 @@ use Rattle.global.specs.declared.Outcome.the-variants.{Fits, Late, None}
 use Rattle.global.specs.declared.Row.{Row}
 use Rattle.global.specs.Row.{reported}
 use Rattle.report.specs.declared.Report.{Report}
-use Rattle.report.specs.Report.{noRow, reportOf}
+use Rattle.rows.specs.Rows.{noRow}
+use Rattle.report.specs.Report.{reportOf}
 use Rattle.stored.specs.declared.ReadAnswer.{ReadAnswer}
 use Rattle.stored.specs.declared.ReadAnswer.the-variants.{Whole, Refused as RefusedFile}
 use Rattle.stored.specs.Read.{fileRefusal, readOf}

@@ -17,7 +17,7 @@ use global::Outcome;
 use global::Row;
 use numbers::index;
 use report::Report;
-use report::rows::no_row;
+use rows::no_row;
 use rules::Judged;
 use stored::ReadAnswer;
 use stored::number::put_number;

@@ -16,7 +16,8 @@ use Rattle.rules.specs.Rules.{judgeOf, place}
 use Rattle.rules.specs.Exactly.{Breaks, FirstBreak}
 use Rattle.rules.proofs.Exactly.{refused-exactly, admitted-exactly}
 use Rattle.report.specs.declared.Report.{Report}
-use Rattle.report.specs.Report.{noRow, reportFor, reportOf}
+use Rattle.rows.specs.Rows.{noRow}
+use Rattle.report.specs.Report.{reportFor, reportOf}
 use Rattle.report.proofs.ReportLaws.{same-report}
 
 -- A table is refused by rule k at place s i exactly when that place breaks rule k, no earlier place breaks it, and no earlier

@@ -35,10 +35,11 @@ use Rattle.job.specs.Ends.{activePeriod, jobs, budgetEnd, jobEnd}
 use Rattle.job.specs.Response.{response as step11, worstJob, jobResource, jobResponse, responseWith}
 use Rattle.global.specs.Row.{rowOf, rowFor, rowWith, rowWithout, judged, reported}
 use Rattle.job.proofs.ViewLaws.{overrun-seen, held-seen, resources-seen}
-use Rattle.report.specs.Interfaces.{interfacesFrom}
-use Rattle.report.proofs.SoundLaws.{period-shown, overrun-shown, holding-shown}
+use Rattle.rows.specs.Interfaces.{interfacesFrom}
+use Rattle.rows.proofs.SoundLaws.{period-shown, overrun-shown, holding-shown}
 use Rattle.report.specs.declared.Report.{Report}
-use Rattle.report.specs.Report.{rowAt, failingAt, noRow, accepted, reportFor, reportOf}
+use Rattle.rows.specs.Rows.{rowAt, failingAt, noRow}
+use Rattle.report.specs.Report.{accepted, reportFor, reportOf}
 use Rattle.promises.specs.Tables.{IsAdmitted, HasSubsystem, subsystem, overrun}
 
 -- What the other subsystems see of a table's, and the row of subsystem s in its report.

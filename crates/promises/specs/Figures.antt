@@ -17,7 +17,7 @@ use Rattle.job.specs.View.{View, viewOf, held, ceiling, overrun, cost}
 use Rattle.job.specs.Ends.{activePeriod, jobs, ahead, budgetEnd, shutOut, jobEnd}
 use Rattle.job.specs.Response.{firstAt, responseWith, jobResponse, jobResource, response, worstJob}
 use Rattle.global.specs.Row.{rowOf, rowFor, rowWith, rowWithout, judged, reported}
-use Rattle.report.specs.Interfaces.{interfaceFrom, interfaceAt, interfacesFrom}
+use Rattle.rows.specs.Interfaces.{interfaceFrom, interfaceAt, interfacesFrom}
 use Rattle.global.specs.declared.Row.{Row}
 use Rattle.global.specs.declared.Outcome.{Outcome}
 use Rattle.global.specs.declared.Outcome.the-variants.{Fits, Late, None}

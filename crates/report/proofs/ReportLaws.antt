@@ -17,7 +17,8 @@ use Rattle.rules.specs.declared.Judged.the-variants.{Admitted, Refused}
 use Rattle.rules.specs.Rules.{judgeOf}
 use Rattle.global.specs.declared.Row.{Row}
 use Rattle.report.specs.declared.Report.{Report}
-use Rattle.report.specs.Report.{rowAt, noRow, acceptedAt, accepted, slotAccepted, reportFor, reportOf}
+use Rattle.rows.specs.Rows.{rowAt, noRow}
+use Rattle.report.specs.Report.{acceptedAt, accepted, slotAccepted, reportFor, reportOf}
 use Rattle.report.proofs.AcceptedLaws.{slots-are-rows}
 
 report-of : (sys : System) (j : Judged) → j ≡ judgeOf sys → reportFor j sys ≡ reportOf sys

@@ -1,5 +1,2 @@
--- The interfaces of a system, its rows, and the report.
-pub mod Interfaces
+-- Acceptance and the report.
 pub mod Report
-pub mod Slots
-pub mod Jobs

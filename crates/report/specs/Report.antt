@@ -1,5 +1,5 @@
--- Rows and the report, over what a table means (steps 5, 11 and 12 put together). Indices count from 0. Assumes nothing.
-use Prim.Native.Nat.{ℕ, _-_}
+-- Acceptance (step 12) and the report, over what a table means; crate `rows` has the rows. Indices count from 0. Assumes nothing.
+use Prim.Native.Nat.{ℕ}
 use mathlib.Core.Bool.{Bool, true, false, _&&_}
 use lib.Dec.{eqb}
 use mathlib.Core.List.{List}
@@ -7,25 +7,15 @@ use lib.ListN.{getD, replicate}
 use Rattle.lists.specs.Range.{allTo, padded}
 use Rattle.table.specs.Limits.{most}
 use Rattle.table.specs.Meaning.{System}
-use Rattle.table.specs.Parts.{subsystemCount, subsystemOf}
+use Rattle.table.specs.Parts.{subsystemCount}
 use Rattle.rules.specs.declared.Judged.{Judged}
 use Rattle.rules.specs.declared.Judged.the-variants.{Admitted, Refused}
 use Rattle.rules.specs.Rules.{judgeOf}
-use Rattle.local.specs.Passing.{firstFailing, givingEnd}
 use Rattle.global.specs.declared.Outcome.{Outcome}
 use Rattle.global.specs.declared.Outcome.the-variants.{Fits, Late, None}
 use Rattle.global.specs.declared.Row.{Row}
-use Rattle.global.specs.Row.{rowOf}
 use Rattle.report.specs.declared.Report.{Report}
-use Rattle.report.specs.Interfaces.{interfacesFrom}
-
--- The first failing task of subsystem s, 0 if none, with E = P − X.
-unfoldable pub failingAt : System → ℕ → ℕ
-failingAt sys s = firstFailing (sys .resources) (subsystemOf sys s) (givingEnd (sys .resources) (subsystemOf sys s))
-
--- The row of subsystem s.
-unfoldable pub rowAt : System → ℕ → Row
-rowAt sys s = rowOf (interfacesFrom sys) s (failingAt sys s)
+use Rattle.rows.specs.Rows.{rowAt, noRow}
 
 -- Whether a row fits.
 abbrev pub fits : Outcome → Bool
@@ -43,20 +33,6 @@ acceptedAt sys s = rowAccepted (rowAt sys s)
 -- Step 12. Accepted: every task passes and every row fits.
 unfoldable pub accepted : System → Bool
 accepted sys = allTo (acceptedAt sys) (subsystemCount sys)
-
--- The row that stands past N, and everywhere in a refused report: zero, with outcome none.
-abbrev pub noRow : Row
-noRow =
-    record {
-      holding = 0;
-      failing = 0;
-      blocking = 0;
-      active = 0;
-      jobs = 0;
-      job = 0;
-      resource = 0;
-      outcome = None;
-    }
 
 -- What stands past the end of an array of rows. No count reaches there.
 abbrev pub pastRows : Row

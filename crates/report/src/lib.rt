@@ -1,5 +1,5 @@
-// The report of any table: the judgement, a row for each subsystem, and acceptance. `analyse` has no `requires`. Every
-// function here is proved, and the crate assumes nothing of its own.
+// The report of any table: the judgement, a row for each subsystem (crate `rows`), and acceptance. `analyse` has no `requires`.
+// Every function here is proved, and the crate assumes nothing of its own.
 ghost use mathlib.Core.Path.{_≡_};
 ghost use mathlib.Core.Bool.{false};
 ghost use lib.ListN.{replicate};
@@ -8,7 +8,8 @@ ghost use Rattle.table.specs.Meaning.{meaning};
 ghost use Rattle.table.specs.Grid.{systemIn};
 ghost use Rattle.rules.specs.declared.Judged.the-variants.{Admitted};
 ghost use Rattle.rules.specs.Rules.{countsJudged};
-ghost use Rattle.report.specs.Report.{noRow, reportOf};
+ghost use Rattle.rows.specs.Rows.{noRow};
+ghost use Rattle.report.specs.Report.{reportOf};
 use global::Row;
 use numbers::index;
 use rules::Judged;
@@ -19,9 +20,6 @@ use table::grid::BLOCK;
 use table::grid::LINE;
 
 pub mod accepting;
-pub mod interface;
-pub mod jobs;
-pub mod rows;
 
 // The report: the judgement, whether the table is accepted, and eight rows. Where the table is refused, and past its
 // subsystems, rows are zero with outcome none.

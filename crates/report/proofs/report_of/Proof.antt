@@ -4,14 +4,14 @@ use mathlib.Core.Path.{sym, _∙_}
 use Rattle.table.specs.Grid.{systemIn}
 use Rattle.table.proofs.GridLaws.{count-of-grid}
 use Rattle.rules.proofs.Sound.{admitted-is-sound}
-use Rattle.report.proofs.InterfaceLaws.{few-subsystems}
+use Rattle.rows.proofs.InterfaceLaws.{few-subsystems}
 use Rattle.report.proofs.ReportLaws.{refused-report, admitted-report}
 use Rattle.report.proofs.report_of.Statement.{statement}
 use Rattle.report.proofs.report_of.Tie as tie
 use Rattle.report.proofs.report_of.Reads as reads
 use Rattle.report.proofs.report_of.Lts as lts
 use Rattle.report.proofs.accepting.all_accepted.Reads as all-accepted-reads
-use Rattle.report.proofs.rows.rows_of.Reads as rows-of-reads
+use Rattle.rows.proofs.rows_of.Reads as rows-of-reads
 use Rattle.report.proofs.without_figures.Reads as without-figures-reads
 use Rattle.rules.proofs.judging.judge_grid.Reads as judge-grid-reads
 

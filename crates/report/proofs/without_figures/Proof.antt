@@ -5,7 +5,7 @@ use Rattle.report.proofs.without_figures.Statement.{statement}
 use Rattle.report.proofs.without_figures.Tie as tie
 use Rattle.report.proofs.without_figures.Reads as reads
 use Rattle.report.proofs.without_figures.Lts as lts
-use Rattle.report.proofs.rows.no_row.Reads as no-row-reads
+use Rattle.rows.proofs.no_row.Reads as no-row-reads
 
 -- src/lib.rt:41:16
 no-row-requires : tie.Need-no-row-requires

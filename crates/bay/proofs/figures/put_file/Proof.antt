@@ -17,7 +17,7 @@ use Rattle.bay.proofs.figures.put_report.Reads as put-report-reads
 use Rattle.bay.proofs.judging.file_judgement.Reads as file-judgement-reads
 use Rattle.numbers.proofs.index.Reads as index-reads
 use Rattle.report.proofs.report_of.Reads as report-of-reads
-use Rattle.report.proofs.rows.no_row.Reads as no-row-reads
+use Rattle.rows.proofs.no_row.Reads as no-row-reads
 use Rattle.stored.proofs.file_refusal.Reads as file-refusal-reads
 use Rattle.stored.proofs.read_grid.Reads as read-grid-reads
 

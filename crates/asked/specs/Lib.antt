@@ -1,0 +1,2 @@
+-- The end of one job, for whoever asks.
+pub mod Jobs
