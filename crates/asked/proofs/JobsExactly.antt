@@ -9,9 +9,9 @@ use lib.Dec.{ltb}
 use Rattle.lists.proofs.Over.{le-or-lt}
 use Rattle.table.specs.Meaning.{System}
 use Rattle.table.specs.Parts.{subsystemCount, subsystemOf}
+use Rattle.holding.specs.Holding.{resourceHolding}
 use Rattle.rules.specs.declared.Judged.{Judged}
 use Rattle.rules.specs.declared.Judged.the-variants.{Admitted, Refused}
-use Rattle.rules.specs.Holding.{resourceHolding}
 use Rattle.rules.specs.Rules.{judgeOf}
 use Rattle.outer.specs.Parts.{count}
 use Rattle.job.specs.View.{viewOf, resources, held}

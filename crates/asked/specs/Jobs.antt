@@ -7,10 +7,10 @@ use mathlib.Core.Bool.{cond}
 use lib.Dec.{ltb}
 use Rattle.table.specs.Meaning.{System}
 use Rattle.table.specs.Parts.{subsystemCount, subsystemOf}
+use Rattle.holding.specs.Holding.{resourceHolding}
 use Rattle.rules.specs.declared.Judged.{Judged}
 use Rattle.rules.specs.declared.Judged.the-variants.{Admitted, Refused}
 use Rattle.rules.specs.Rules.{judgeOf}
-use Rattle.rules.specs.Holding.{resourceHolding}
 use Rattle.outer.specs.Interfaces.{InterfacesM}
 use Rattle.outer.specs.Parts.{count}
 use Rattle.job.specs.View.{View, viewOf, held}

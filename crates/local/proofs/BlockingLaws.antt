@@ -18,8 +18,8 @@ use Rattle.table.specs.Meaning.{SubsystemM}
 use Rattle.table.specs.Parts.{taskCount, taskOf, accessOf}
 use Rattle.table.specs.Grid.{countIn, accessIn, subsystemIn}
 use Rattle.table.proofs.GridLaws.{count-of-block, access-of-block}
-use Rattle.rules.specs.Holding.{uses, innerCeiling, resourceHolding}
-use Rattle.rules.proofs.HoldingLaws.{access-within-holding}
+use Rattle.holding.specs.Holding.{uses, innerCeiling, resourceHolding}
+use Rattle.holding.proofs.HoldingLaws.{access-within-holding}
 use Rattle.local.specs.Blocking.{canBlock, blockingAccess, resourceBlocking, taskBlocking}
 
 -- How long each task accesses resource l.

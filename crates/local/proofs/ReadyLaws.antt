@@ -6,7 +6,7 @@ use mathlib.Core.List.{List}
 use Rattle.table.specs.Limits.{most}
 use Rattle.table.specs.Meaning.{SubsystemM}
 use Rattle.table.specs.Grid.{periodIn, subsystemIn}
-use Rattle.rules.specs.Holding.{holding}
+use Rattle.holding.specs.Holding.{holding}
 use Rattle.rules.specs.Admitted.{SoundSubsystem}
 use Rattle.local.specs.Passing.{givingEnd}
 use Rattle.local.specs.Ready.{Ready}

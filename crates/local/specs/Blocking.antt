@@ -6,7 +6,7 @@ use lib.Dec.{ltb, leb}
 use Rattle.lists.specs.Range.{largestTo}
 use Rattle.table.specs.Meaning.{SubsystemM}
 use Rattle.table.specs.Parts.{taskCount, taskOf, accessOf}
-use Rattle.rules.specs.Holding.{uses, innerCeiling}
+use Rattle.holding.specs.Holding.{uses, innerCeiling}
 
 -- Whether task j's access to resource l can hold up task i: j > i, c(j, l) > 0, rc(s, l) ≤ i.
 unfoldable pub canBlock : SubsystemM → (i l j : ℕ) → Bool

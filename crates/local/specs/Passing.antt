@@ -8,7 +8,7 @@ use Rattle.lists.specs.Range.{sumTo, firstSuch}
 use Rattle.least.specs.Up.{up}
 use Rattle.table.specs.Meaning.{SubsystemM}
 use Rattle.table.specs.Parts.{taskCount, taskOf, workOf}
-use Rattle.rules.specs.Holding.{holding}
+use Rattle.holding.specs.Holding.{holding}
 use Rattle.supply.specs.Supply.{supply}
 use Rattle.local.specs.Blocking.{taskBlocking}
 

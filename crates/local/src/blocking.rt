@@ -5,8 +5,8 @@ ghost use Prim.Native.Nat.{_+_};
 ghost use Rattle.lists.specs.Range.{padded};
 ghost use Rattle.table.specs.Limits.{most};
 ghost use Rattle.table.specs.Grid.{countIn, subsystemIn};
-ghost use Rattle.rules.specs.Slots.{Slots, Counted};
-ghost use Rattle.rules.specs.Holding.{resourceHolding};
+ghost use Rattle.holding.specs.Slots.{Slots, Counted};
+ghost use Rattle.holding.specs.Holding.{resourceHolding};
 ghost use Rattle.local.specs.Blocking.{taskBlocking};
 use numbers::longer;
 use table::Table;
@@ -22,7 +22,7 @@ fn raise_by(block: &[[u32; LINE]; BLOCK], m: usize, l: usize, blockings: &mut [u
     requires { ⌜ now blockings ≡ padded (taskBlocking l (subsystemIn m (now block))) 0 most (countIn (now block)) ⌝ }
     ensures { λ _. ⌜ now (blockings .exit) ≡ padded (taskBlocking (l + 1) (subsystemIn m (now (block .entry)))) 0 most (countIn (now (block .entry))) ⌝ }
 {
-    let ceiling = rules::holding::inner_ceiling(block, m, l);
+    let ceiling = holding::inner_ceiling(block, m, l);
     let mut longest: u32 = 0;
     let mut j = count(block) - 1;
     while ceiling < j {

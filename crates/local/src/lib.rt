@@ -5,7 +5,7 @@ ghost use Prim.Native.Nat.{_<_};
 ghost use Rattle.lists.specs.Range.{padded};
 ghost use Rattle.table.specs.Limits.{most};
 ghost use Rattle.table.specs.Grid.{countIn, subsystemIn};
-ghost use Rattle.rules.specs.Holding.{resourceHolding};
+ghost use Rattle.holding.specs.Holding.{resourceHolding};
 ghost use Rattle.local.specs.Blocking.{taskBlocking};
 ghost use Rattle.local.specs.Passing.{taskPasses, firstFailing};
 ghost use Rattle.local.specs.Ready.{Ready, TakenOut};

@@ -11,7 +11,7 @@ use Rattle.lists.specs.Range.{largestTo}
 use Rattle.lists.proofs.Over.{below-largest, largest-reached}
 use Rattle.table.specs.Meaning.{SubsystemM}
 use Rattle.table.specs.Parts.{taskCount, taskOf, accessOf}
-use Rattle.rules.specs.Holding.{uses, workAbove, taskHolding, resourceHolding}
+use Rattle.holding.specs.Holding.{uses, workAbove, taskHolding, resourceHolding}
 
 -- A task with a holding time accesses the resource.
 holds-what-it-accesses : (u : SubsystemM) (l i : ℕ) → 0 < taskHolding u l i → 0 < accessOf (taskOf u i) l

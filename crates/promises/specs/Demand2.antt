@@ -20,10 +20,10 @@ use Rattle.table.specs.Limits.{most, horizon}
 use Rattle.table.specs.declared.Table.{Table}
 use Rattle.table.specs.Meaning.{System, meaning}
 use Rattle.table.specs.Parts.{subsystemCount}
+use Rattle.holding.specs.Holding.{resourceHolding}
 use Rattle.rules.specs.declared.Judged.{Judged}
 use Rattle.rules.specs.declared.Judged.the-variants.{Admitted}
 use Rattle.rules.specs.Rules.{judgeOf}
-use Rattle.rules.specs.Holding.{resourceHolding}
 use Rattle.outer.specs.Interfaces.{InterfacesM}
 use Rattle.outer.specs.Parts.{periods, costs}
 use Rattle.outer.specs.Blocking.{blocking as step6}

@@ -4,7 +4,7 @@ use mathlib.Core.Path.{_≡_, refl}
 use mathlib.Core.List.{List, [], _∷_}
 use Rattle.table.specs.Meaning.{TaskM, SubsystemM, System}
 use Rattle.supply.specs.Supply.{supply}
-use Rattle.rules.specs.Holding.{holding, resourceHolding, taskHolding, uses, innerCeiling, workAbove}
+use Rattle.holding.specs.Holding.{holding, resourceHolding, taskHolding, uses, innerCeiling, workAbove}
 use Rattle.table.specs.Parts.{subsystemCount, subsystemOf, taskCount, taskOf, accessOf, workOf}
 use Rattle.lists.specs.Range.{sumTo, largestTo, allTo, firstOf, firstSuch, firstLargest, upTo, padded}
 use Rattle.least.specs.Up.{up}

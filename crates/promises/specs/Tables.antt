@@ -7,8 +7,8 @@ use Rattle.least.specs.Up.{up}
 use Rattle.table.specs.declared.Table.{Table}
 use Rattle.table.specs.Meaning.{SubsystemM, TaskM, meaning}
 use Rattle.table.specs.Parts.{subsystemCount, subsystemOf, taskCount, taskOf}
+use Rattle.holding.specs.Holding.{holding}
 use Rattle.rules.specs.declared.Judged.the-variants.{Admitted}
-use Rattle.rules.specs.Holding.{holding}
 use Rattle.rules.specs.Rules.{judgeOf}
 
 -- A table that no rule refuses.

@@ -13,10 +13,10 @@ use Rattle.table.specs.Meaning.{SubsystemM, System}
 use Rattle.table.specs.Parts.{subsystemCount, subsystemOf}
 use Rattle.table.specs.Grid.{periodIn, budgetIn, subsystemIn, blockIn, systemIn}
 use Rattle.table.proofs.GridLaws.{count-of-grid, resources-of-grid, subsystem-of-grid}
+use Rattle.holding.specs.Holding.{resourceHolding, holding}
+use Rattle.holding.specs.Held.{holdingsAt, HeldIn}
+use Rattle.holding.proofs.HoldingLaws.{held-of-block}
 use Rattle.rules.specs.Admitted.{SoundSubsystem, SoundSystem}
-use Rattle.rules.specs.Holding.{resourceHolding, holding}
-use Rattle.rules.specs.Held.{holdingsAt, HeldIn}
-use Rattle.rules.proofs.HoldingLaws.{held-of-block}
 use Rattle.outer.specs.Interfaces.{InterfaceM, InterfacesM, periodAt, budgetAt, heldAt, interfaceAt as lineAt, interfacesIn}
 use Rattle.outer.specs.Sound.{Sound}
 use Rattle.outer.proofs.Slots.{interface-is, interfaces-are}

@@ -12,8 +12,8 @@ use Rattle.table.specs.Meaning.{SubsystemM, System}
 use Rattle.table.specs.Parts.{subsystemCount, subsystemOf}
 use Rattle.table.specs.Grid.{periodIn, budgetIn, subsystemIn, blockIn, systemIn}
 use Rattle.table.proofs.GridLaws.{count-of-grid, subsystem-of-grid}
+use Rattle.holding.specs.Holding.{holding}
 use Rattle.rules.specs.Admitted.{SoundSubsystem, SoundSystem}
-use Rattle.rules.specs.Holding.{holding}
 use Rattle.local.specs.Passing.{firstFailing, givingEnd}
 use Rattle.local.specs.Ready.{Ready}
 use Rattle.outer.specs.declared.ceilings.Common.{Common}

@@ -8,8 +8,8 @@ use Rattle.lists.proofs.Over.{largestTo-ext}
 use Rattle.lists.proofs.UpTo.{getD-upTo, length-upTo}
 use Rattle.table.specs.Meaning.{SubsystemM, System}
 use Rattle.table.specs.Parts.{subsystemCount, subsystemOf}
+use Rattle.holding.specs.Holding.{resourceHolding, holding}
 use Rattle.rules.specs.Admitted.{SoundSubsystem, SoundSystem}
-use Rattle.rules.specs.Holding.{resourceHolding, holding}
 use Rattle.outer.specs.Interfaces.{InterfaceM, InterfacesM}
 use Rattle.outer.specs.Parts.{noInterface, count, interfaceOf, periodOf, budgetOf, holdingOf, holding as overrunOf}
 use Rattle.outer.specs.Sound.{Sound}

@@ -4,7 +4,7 @@ use Prim.Native.Nat.{ℕ}
 use Rattle.lists.specs.Range.{upTo}
 use Rattle.table.specs.Meaning.{SubsystemM, System}
 use Rattle.table.specs.Parts.{subsystemCount, subsystemOf}
-use Rattle.rules.specs.Holding.{resourceHolding}
+use Rattle.holding.specs.Holding.{resourceHolding}
 use Rattle.outer.specs.Interfaces.{InterfaceM, InterfacesM}
 
 -- P, Q and X(s, l) for each of m resources.

@@ -6,8 +6,8 @@ use mathlib.Core.List.{List}
 use lib.ListN.{getD}
 use Rattle.table.specs.Limits.{most}
 use Rattle.table.specs.Grid.{periodIn, budgetIn, subsystemIn}
+use Rattle.holding.specs.Holding.{resourceHolding}
 use Rattle.rules.specs.Admitted.{SoundSubsystem}
-use Rattle.rules.specs.Holding.{resourceHolding}
 
 pub record SoundSlot (block : List (List ℕ)) (m : ℕ) : Type 0 where
   pub sound : SoundSubsystem m (subsystemIn m block)

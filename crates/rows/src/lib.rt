@@ -6,7 +6,7 @@ ghost use mathlib.Core.Path.{_≡_};
 ghost use Rattle.lists.specs.Range.{padded};
 ghost use Rattle.table.specs.Limits.{most};
 ghost use Rattle.table.specs.Grid.{systemIn};
-ghost use Rattle.rules.specs.Held.{HeldIn};
+ghost use Rattle.holding.specs.Held.{HeldIn};
 ghost use Rattle.rules.specs.Admitted.{SoundSystem};
 ghost use Rattle.rows.specs.Rows.{noRow, rowAt};
 use crate::interface::interfaces_of;

@@ -14,9 +14,9 @@ use Rattle.table.specs.Limits.{largest}
 use Rattle.table.specs.Meaning.{TaskM, SubsystemM}
 use Rattle.table.specs.Grid.{periodIn, budgetIn, separationIn, workIn, deadlineIn, accessIn, taskIn, subsystemIn}
 use Rattle.table.proofs.GridLaws.{access-of-line}
+use Rattle.holding.specs.Holding.{holding}
 use Rattle.rules.specs.declared.Rule.{Rule}
 use Rattle.rules.specs.declared.Rule.the-variants.{Counts, Range, Order, Access, Overrun}
-use Rattle.rules.specs.Holding.{holding}
 use Rattle.rules.specs.Rules.{accessWithin, someAccessAbove, countOut, timeOut, subsystemBreaks, taskBreaks}
 
 -- Out of 1 .. most: below it, or else by the second test.

@@ -1,6 +1,4 @@
 -- Laws of the definitions in specs/, by subject.
-pub mod HoldingLaws
-pub mod TaskwiseLaws
 pub mod BreaksLaws
 pub mod JudgingLaws
 pub mod EarlierLaws

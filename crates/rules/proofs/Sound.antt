@@ -15,11 +15,11 @@ use Rattle.table.specs.Limits.{most, largest}
 use Rattle.table.specs.declared.Table.{Table}
 use Rattle.table.specs.Meaning.{TaskM, SubsystemM, System, meaning, MeanTheSame}
 use Rattle.table.specs.Parts.{subsystemCount, subsystemOf, taskCount, taskOf, accessOf, workOf}
+use Rattle.holding.specs.Holding.{uses, innerCeiling, workAbove, taskHolding, resourceHolding, holding}
 use Rattle.rules.specs.declared.Rule.{Rule}
 use Rattle.rules.specs.declared.Rule.the-variants.{Counts, Range, Order, Access, Overrun}
 use Rattle.rules.specs.declared.Judged.{Judged}
 use Rattle.rules.specs.declared.Judged.the-variants.{Admitted, Refused}
-use Rattle.rules.specs.Holding.{uses, innerCeiling, workAbove, taskHolding, resourceHolding, holding}
 use Rattle.rules.specs.Rules.{countOut, timeOut, accessWithin, someAccessAbove, tableBreaks, subsystemBreaks, taskBreaks, placeBreaks, judgeOf}
 use Rattle.rules.specs.Admitted.{SoundTask, SoundSubsystem, SoundSystem}
 use Rattle.rules.specs.Exactly.{Breaks, whole, part}

@@ -3,7 +3,7 @@ use Prim.Native.Nat.{ℕ, _+_, _-_, _≤_, _<_}
 use Rattle.table.specs.Limits.{most, largest}
 use Rattle.table.specs.Meaning.{TaskM, SubsystemM, System}
 use Rattle.table.specs.Parts.{subsystemCount, subsystemOf, taskCount, taskOf, accessOf}
-use Rattle.rules.specs.Holding.{holding}
+use Rattle.holding.specs.Holding.{holding}
 
 pub record SoundTask (m : ℕ) (t : TaskM) : Type 0 where
   pub separation-most : t .separation ≤ largest

@@ -1,9 +1,7 @@
--- Steps 1 and 2, the rules, and the number and place of each answer.
-pub mod Holding
+-- The rules, and the number and place of each answer.
 pub mod Rules
 pub mod Refusal
 pub mod Admitted
 pub mod Exactly
 pub mod Slots
 pub mod Earlier
-pub mod Held

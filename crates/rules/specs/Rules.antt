@@ -10,12 +10,12 @@ use Rattle.lists.specs.Range.{allTo, firstOf, firstSuch}
 use Rattle.table.specs.Limits.{most, largest}
 use Rattle.table.specs.Meaning.{TaskM, SubsystemM, System}
 use Rattle.table.specs.Parts.{subsystemCount, subsystemOf, taskCount, taskOf, accessOf}
+use Rattle.holding.specs.Holding.{holding}
 use Rattle.rules.specs.declared.Rule.{Rule}
 use Rattle.rules.specs.declared.Rule.the-variants.{Counts, Range, Order, Access, Overrun}
 use Rattle.rules.specs.declared.Place.{Place}
 use Rattle.rules.specs.declared.Judged.{Judged}
 use Rattle.rules.specs.declared.Judged.the-variants.{Admitted, Refused}
-use Rattle.rules.specs.Holding.{holding}
 
 -- A count from 1 to the most; a time from 1 to the largest.
 abbrev pub countOut : ℕ → Bool

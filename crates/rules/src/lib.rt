@@ -1,12 +1,11 @@
-// Rules 1 to 5, and what they rest on of steps 1 and 2. `judge` takes any table; it has no `requires`.
+// Rules 1 to 5: what breaks each of them at one place, and the first place of a subsystem that breaks one. Crate `judge`
+// goes through them in their order.
 ghost use mathlib.Core.Path.{_≡_};
 ghost use Prim.Native.Nat.{_≤_, _<_};
 use table::Subsystem;
 use table::Table;
 
 pub mod breaks;
-pub mod holding;
-pub mod judging;
 pub mod places;
 
 // The rules, by what they are about.

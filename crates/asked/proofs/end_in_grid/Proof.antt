@@ -20,7 +20,7 @@ use Rattle.asked.proofs.end_in_grid.Reads as reads
 use Rattle.asked.proofs.end_in_grid.Lts as lts
 use Rattle.rows.proofs.interface.interfaces_of.Reads as interfaces-of-reads
 use Rattle.asked.proofs.end_of.Reads as end-of-reads
-use Rattle.rules.proofs.judging.judge_grid.Reads as judge-grid-reads
+use Rattle.judge.proofs.judge_grid.Reads as judge-grid-reads
 
 -- src/jobs.rt:76:9
 judge-grid-requires : tie.Need-judge-grid-requires

@@ -14,7 +14,7 @@ use Rattle.asked.proofs.job_end.Reads as reads
 use Rattle.asked.proofs.job_end.Lts as lts
 use Rattle.numbers.proofs.index.Reads as index-reads
 use Rattle.asked.proofs.end_in_grid.Reads as end-in-grid-reads
-use Rattle.rules.proofs.judging.judge_counts.Reads as judge-counts-reads
+use Rattle.judge.proofs.judge_counts.Reads as judge-counts-reads
 use Rattle.table.proofs.grid.lay_out.Reads as lay-out-reads
 
 -- src/jobs.rt:98:9

@@ -3,12 +3,12 @@ use borrow.Author.Needs.{needs}
 use native.Mathlib.Omega.{arith}
 use mathlib.Core.Path.{_∙_}
 use Rattle.table.proofs.GridLaws.{blank-lines}
-use Rattle.rules.proofs.HoldingLaws.{ceiling-is-a-task}
+use Rattle.holding.proofs.HoldingLaws.{ceiling-is-a-task}
 use Rattle.figures.proofs.inner_ceiling.Statement.{statement}
 use Rattle.figures.proofs.inner_ceiling.Tie as tie
 use Rattle.figures.proofs.inner_ceiling.Reads as reads
 use Rattle.figures.proofs.inner_ceiling.Lts as lts
-use Rattle.rules.proofs.holding.inner_ceiling.Reads as inner-ceiling-reads
+use Rattle.holding.proofs.inner_ceiling.Reads as inner-ceiling-reads
 use Rattle.table.proofs.grid.lay_out_subsystem.Reads as lay-out-subsystem-reads
 
 -- src/main.rt:128:5

@@ -13,7 +13,7 @@ use Rattle.report.proofs.analyse.Lts as lts
 use Rattle.numbers.proofs.index.Reads as index-reads
 use Rattle.report.proofs.report_of.Reads as report-of-reads
 use Rattle.report.proofs.without_figures.Reads as without-figures-reads
-use Rattle.rules.proofs.judging.judge_counts.Reads as judge-counts-reads
+use Rattle.judge.proofs.judge_counts.Reads as judge-counts-reads
 use Rattle.table.proofs.grid.lay_out.Reads as lay-out-reads
 
 -- src/lib.rt:68:9

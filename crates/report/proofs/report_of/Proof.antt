@@ -13,7 +13,7 @@ use Rattle.report.proofs.report_of.Lts as lts
 use Rattle.report.proofs.accepting.all_accepted.Reads as all-accepted-reads
 use Rattle.rows.proofs.rows_of.Reads as rows-of-reads
 use Rattle.report.proofs.without_figures.Reads as without-figures-reads
-use Rattle.rules.proofs.judging.judge_grid.Reads as judge-grid-reads
+use Rattle.judge.proofs.judge_grid.Reads as judge-grid-reads
 
 -- src/lib.rt:51:9
 judge-grid-requires : tie.Need-judge-grid-requires

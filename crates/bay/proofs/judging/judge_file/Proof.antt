@@ -12,7 +12,7 @@ use Rattle.bay.proofs.judging.judge_file.Lts as lts
 use Rattle.bay.proofs.judging.file_judgement.Reads as file-judgement-reads
 use Rattle.bay.proofs.judging.table_judgement.Reads as table-judgement-reads
 use Rattle.numbers.proofs.index.Reads as index-reads
-use Rattle.rules.proofs.judging.judge_grid.Reads as judge-grid-reads
+use Rattle.judge.proofs.judge_grid.Reads as judge-grid-reads
 use Rattle.stored.proofs.file_refusal.Reads as file-refusal-reads
 use Rattle.stored.proofs.read_grid.Reads as read-grid-reads
 

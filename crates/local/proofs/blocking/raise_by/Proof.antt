@@ -6,7 +6,7 @@ use mathlib.Core.List.{List}
 use borrow.Author.Needs.{needs}
 use native.Mathlib.Omega.{arith}
 use denote.Ref.{now}
-use Rattle.rules.proofs.HoldingLaws.{ceiling-is-a-task}
+use Rattle.holding.proofs.HoldingLaws.{ceiling-is-a-task}
 use Rattle.lists.specs.Range.{behind, padded}
 use Rattle.lists.proofs.Raised.{behind-last, behind-next, raisedFrom, raised-last, raised-next, raised-all}
 use Rattle.table.specs.Limits.{most}
