@@ -152,7 +152,7 @@ pub fn put_file(free: &mut [u8], file: &[u8]) -> usize
     ensures { λ r. ⌜ IsPut (flatMap numberBytes (figuresIn (now (file .entry)))) (now (free .entry)) (now (free .exit)) r ⌝ }
 {
     let mut grid = [[[0u32; LINE]; BLOCK]; Table::MOST];
-    let head = stored::read_grid(file, &mut grid);
+    let head = reader::read_grid(file, &mut grid);
     let answer = head.answer;
     let ReadAnswer::Whole = answer else {
         let j = file_judgement(stored::file_refusal(answer));

@@ -48,7 +48,7 @@ pub fn judge_file(file: &[u8]) -> Judgement
     ensures { λ r. ⌜ r ≡ judgementOf (now (file .entry)) ⌝ }
 {
     let mut grid = [[[0u32; LINE]; BLOCK]; Table::MOST];
-    let head = stored::read_grid(file, &mut grid);
+    let head = reader::read_grid(file, &mut grid);
     let answer = head.answer;
     let ReadAnswer::Whole = answer else {
         return file_judgement(stored::file_refusal(answer));

@@ -73,7 +73,7 @@ pub extern "C" fn bay_rewrite(file: &[u8], buf: &mut [u8]) -> usize
     ensures { λ r. ⌜ r ≡ rewriteOf (now (file .entry)) (length (now (buf .entry))) ⌝ }
     ensures { λ _. ⌜ now (buf .exit) ≡ rewriteAfter (now (file .entry)) (now (buf .entry)) ⌝ }
 {
-    let reading = stored::read_table(file);
+    let reading = reader::read_table(file);
     let answer = reading.answer;
     let ReadAnswer::Whole = answer else {
         return 0;

@@ -159,7 +159,7 @@ fn no_active_period() {
 }
 
 fn empty_file() {
-    let reading = stored::read_table(b"");
+    let reading = reader::read_table(b"");
     let answer = reading.answer;
     let refusal = stored::file_refusal(answer);
     print::text(b"empty file: refused ");

@@ -3,7 +3,7 @@ use Prim.Native.Nat.{ℕ, _+_, _*_, _≤_, _<_}
 use native.Mathlib.Omega.{arith}
 use mathlib.Core.Path.{_≡_, refl, sym, subst, _∙_}
 use mathlib.Core.List.{List}
-use lib.ListN.{length, getD, set, length-set}
+use lib.ListN.{getD, set, length-set}
 use lib.Seq.{getD-set-same}
 use Rattle.lists.proofs.Filled.{Filled, filled-more, kept-before}
 use Rattle.lists.proofs.UpTo.{getD-padded}
@@ -13,7 +13,7 @@ use Rattle.table.specs.Grid.{IsLine, LineOf}
 use Rattle.stored.specs.Numbers.{numberSize, numberAt}
 use Rattle.stored.specs.Field.{countAt}
 use Rattle.stored.specs.Decode.{decodedSubsystem, decodedAccess, decodedTask}
-use Rattle.stored.specs.Reader.{HeadLine}
+use Rattle.stored.specs.HeadLine.{HeadLine}
 
 -- A line with three numbers stored at its start.
 abbrev pub startedWith : List ℕ → ℕ → ℕ → ℕ → List ℕ

@@ -3,11 +3,8 @@ pub mod Numbers
 pub mod Judging
 pub mod Decoding
 pub mod ReadMeaning
-pub mod BlockLaws
-pub mod ReadTasks
-pub mod ReadSubsystems
-pub mod ReadHeader
-pub mod TakenLaws
+pub mod Offsets
+pub mod InRange
 pub mod FileLaws
 pub mod WriteSteps
 pub mod WriteEnds

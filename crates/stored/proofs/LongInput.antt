@@ -24,8 +24,8 @@ use Rattle.stored.specs.Decode.{decodedHeader, decodedSubsystem}
 use Rattle.stored.specs.File.{largestFile, enough}
 use Rattle.stored.specs.Read.{Refusal, refusedAt, headerIn, headAt, taskPlace, placeBehind, subsystemPlace, taskRefusal, tasksRefusal, refusalFrom, subsystemRefusal, leftOver, bodyRefusal, refusalIn, readOf}
 use Rattle.stored.proofs.Judging.{sound-means}
-use Rattle.stored.proofs.ReadTasks.{one-task-further}
-use Rattle.stored.proofs.ReadSubsystems.{header-counts, head-count}
+use Rattle.stored.proofs.Offsets.{one-task-further}
+use Rattle.stored.proofs.InRange.{header-counts, head-count}
 use Rattle.stored.proofs.ReadWritten.{neither-refused, sound-where-unrefused, nothing-left-behind}
 use Rattle.stored.proofs.FirstBytes.{drop-of-take, value-of-first, judged-by-first-bytes}
 use Rattle.stored.proofs.MoreRange.{firstOf-until}

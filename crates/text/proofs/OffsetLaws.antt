@@ -23,7 +23,7 @@ use Rattle.stored.specs.Judge.{headerInRange, subsystemInRange, judgeHeader, ju
 use Rattle.stored.specs.Decode.{decodedHeader, decodedSubsystem}
 use Rattle.stored.specs.File.{largestFile}
 use Rattle.stored.specs.Read.{Refusal, fileRefusal, wholeUnless, refusedAt, headerIn, headAt, taskPlace, placeBehind, subsystemPlace, taskRefusal, tasksRefusal, refusalFrom, subsystemRefusal, leftOver, bodyRefusal, refusalIn, readOf}
-use Rattle.stored.proofs.ReadSubsystems.{count-in-range, and-left, and-right}
+use Rattle.stored.proofs.InRange.{count-in-range, and-left, and-right}
 use Rattle.stored.proofs.ReadWritten.{neither-refused, sound-where-unrefused}
 
 -- The place of a refusal, 0 where there is none.

@@ -19,10 +19,10 @@ use Rattle.report.specs.Report.{reportFor, reportOf}
 use Rattle.stored.specs.declared.Fault.{Fault}
 use Rattle.stored.specs.declared.ReadAnswer.{ReadAnswer}
 use Rattle.stored.specs.declared.ReadAnswer.the-variants.{Whole, Refused as RefusedFile}
-use Rattle.stored.specs.declared.Head.{Head}
+use Rattle.reader.specs.declared.Head.{Head}
 use Rattle.stored.specs.declared.FileRefusal.{FileRefusal}
 use Rattle.stored.specs.Read.{fileRefusal, readOf}
-use Rattle.stored.specs.Reader.{IsHead}
+use Rattle.reader.specs.Reader.{IsHead}
 use Rattle.text.specs.declared.Printed.{Printed}
 use Rattle.text.specs.declared.Printed.the-variants.{Text, NoRoom}
 use Rattle.text.specs.Lines.{refusedFile}

@@ -99,7 +99,7 @@ fn put_text(file: &[u8], grid: &mut [[[u32; LINE]; BLOCK]; Table::MOST], buf: &m
     ensures { λ r. ⌜ Wrote (now (buf .entry)) 0 (textOf (now (file .entry))) (now (buf .exit)) r ⌝ }
     ensures { λ _. ⌜ HasBlocks (now (grid .exit)) ⌝ }
 {
-    let head = stored::read_grid(file, grid);
+    let head = reader::read_grid(file, grid);
     let answer = head.answer;
     let ReadAnswer::Whole = answer else {
         return put_refused_file(buf, 0, stored::file_refusal(answer));

@@ -2,7 +2,7 @@
 use borrow.Author.Needs.{needs}
 use native.Mathlib.Omega.{arith}
 use Rattle.text.proofs.WroteLaws.{wrote-same}
-use Rattle.stored.proofs.WholeCounts.{grid-means-table, grid-counts-pass}
+use Rattle.reader.proofs.WholeGrids.{grid-means-table, grid-counts-pass}
 use Rattle.text.proofs.OffsetLaws.{offset-fits}
 use Rattle.text.proofs.TextLaws.{text-of-refused-file, text-of-read-file}
 use Rattle.text.proofs.put_text.Statement.{statement}
@@ -11,7 +11,7 @@ use Rattle.text.proofs.put_text.Reads as reads
 use Rattle.text.proofs.put_text.Lts as lts
 use Rattle.numbers.proofs.index.Reads as index-reads
 use Rattle.stored.proofs.file_refusal.Reads as file-refusal-reads
-use Rattle.stored.proofs.read_grid.Reads as read-grid-reads
+use Rattle.reader.proofs.read_grid.Reads as read-grid-reads
 use Rattle.text.proofs.put_grid.Reads as put-grid-reads
 use Rattle.text.proofs.refused.put_refused_file.Reads as put-refused-file-reads
 

@@ -5,7 +5,7 @@ use mathlib.Core.List.{flatMap}
 use Rattle.table.proofs.GridLaws.{blank-blocks, count-of-grid}
 use Rattle.stored.specs.File.{numberBytes}
 use Rattle.stored.proofs.WriteSteps.{put-the-same}
-use Rattle.stored.proofs.WholeCounts.{grid-means-table, grid-counts-pass}
+use Rattle.reader.proofs.WholeGrids.{grid-means-table, grid-counts-pass}
 use Rattle.text.proofs.OffsetLaws.{offset-fits}
 use Rattle.bay.proofs.LentLaws.{refused-figures, read-figures}
 use Rattle.bay.proofs.figures.put_file.Statement.{statement}
@@ -19,7 +19,7 @@ use Rattle.numbers.proofs.index.Reads as index-reads
 use Rattle.report.proofs.report_of.Reads as report-of-reads
 use Rattle.rows.proofs.no_row.Reads as no-row-reads
 use Rattle.stored.proofs.file_refusal.Reads as file-refusal-reads
-use Rattle.stored.proofs.read_grid.Reads as read-grid-reads
+use Rattle.reader.proofs.read_grid.Reads as read-grid-reads
 
 -- src/figures.rt:155:9
 read-grid-requires : tie.Need-read-grid-requires

@@ -2,7 +2,7 @@
 use borrow.Author.Needs.{needs}
 use mathlib.Core.Path.{refl}
 use Rattle.table.proofs.GridLaws.{blank-blocks}
-use Rattle.stored.proofs.WholeCounts.{grid-means-table, grid-counts-pass}
+use Rattle.reader.proofs.WholeGrids.{grid-means-table, grid-counts-pass}
 use Rattle.text.proofs.OffsetLaws.{offset-fits}
 use Rattle.bay.proofs.JudgementLaws.{judgement-of-refused, judgement-of-read}
 use Rattle.bay.proofs.judging.judge_file.Statement.{statement}
@@ -14,7 +14,7 @@ use Rattle.bay.proofs.judging.table_judgement.Reads as table-judgement-
 use Rattle.numbers.proofs.index.Reads as index-reads
 use Rattle.judge.proofs.judge_grid.Reads as judge-grid-reads
 use Rattle.stored.proofs.file_refusal.Reads as file-refusal-reads
-use Rattle.stored.proofs.read_grid.Reads as read-grid-reads
+use Rattle.reader.proofs.read_grid.Reads as read-grid-reads
 
 -- src/judging.rt:51:9
 read-grid-requires : tie.Need-read-grid-requires

@@ -1,0 +1,3 @@
+-- What the reader leaves in a grid, and the table that is taken out of one.
+pub mod Reader
+pub mod Taken
