@@ -22,38 +22,32 @@ use Rattle.rows.proofs.interface.interfaces_of.Reads as interfaces-of-reads
 use Rattle.asked.proofs.end_of.Reads as end-of-reads
 use Rattle.judge.proofs.judge_grid.Reads as judge-grid-reads
 
--- src/jobs.rt:76:9
 judge-grid-requires : tie.Need-judge-grid-requires
 judge-grid-requires c κs = search needs
 
 enum-told : tie.Need-enum-told
 enum-told c = search needs
 
--- src/jobs.rt:78:9
 enum-told-2 : tie.Need-enum-told-2
 enum-told-2 c = search needs
 
--- src/jobs.rt:78:9
 returns : tie.Need-returns
 returns c =
     let s = c .before .before .before .before in
     refused-ends _ (s .args .k) (s .args .l) (s .args .s) (c .before .before .judge-grid .ensures .0) (c .enum-told2 .given .1)
 
--- src/jobs.rt:81:9
 returns-2 : tie.Need-returns-2
 returns-2 c =
     let j = c .before .before .before in
     let s = j .before .before in
     subsystem-0 _ (s .args .k) (s .args .l) (j .judge-grid .ensures .0) (c .before .enum-told .given .1) (s .args .s) (c .if1 .taken)
 
--- src/jobs.rt:84:9
 returns-3 : tie.Need-returns-3
 returns-3 c =
     let j = c .before .before .before .before in
     let s = j .before .before in
     past-subsystems _ (s .args .k) (s .args .l) (j .judge-grid .ensures .0) (c .before .before .enum-told .given .1) (s .args .s) (omega (arith, count-of-interfaces (systemIn (s .args .n) (s .args .m) (s .args .grid .now)), count-of-grid (s .args .n) (s .args .m) (s .args .grid .now), c .if2 .taken))
 
--- src/jobs.rt:87:5
 interfaces-of-requires : tie.Need-interfaces-of-requires
 interfaces-of-requires c κs =
     let t = c .before .before .before .before in
@@ -61,18 +55,15 @@ interfaces-of-requires c κs =
     let told = t .enum-told .given .1 in
     (admitted-is-sound _ (sym (j .judge-grid .ensures .0) ∙ told), (j .judge-grid .ensures .1 told, refl))
 
--- src/jobs.rt:88:9
 in-common-requires : tie.Need-in-common-requires
 in-common-requires c κs =
     let t = c .before .before .before .before .before .before in
     let j = t .before .before in
     sound-lines _ _ _ _ (c .before .interfaces-of .ensures) (admitted-is-sound _ (sym (j .judge-grid .ensures .0) ∙ t .enum-told .given .1))
 
--- src/jobs.rt:89:34
 sub-end-of : tie.Need-sub-end-of
 sub-end-of c = search needs
 
--- src/jobs.rt:89:5
 end-of-requires : tie.Need-end-of-requires
 end-of-requires c κs =
     let i = c .before .before .before in
@@ -82,7 +73,6 @@ end-of-requires c κs =
       (c .before .in-common .ensures, omega (arith, pos-of-ne-zero (i .before .before .before .before .if1 .left), i .before .before .before .if2 .left)),
     )
 
--- src/jobs.rt:64:1
 returns-4 : tie.Need-returns-4
 returns-4 c =
     let i = c .before .before .before .before in

@@ -17,46 +17,37 @@ use Rattle.asked.proofs.end_in_grid.Reads as end-in-grid-reads
 use Rattle.judge.proofs.judge_counts.Reads as judge-counts-reads
 use Rattle.table.proofs.grid.lay_out.Reads as lay-out-reads
 
--- src/jobs.rt:98:9
 judge-counts-requires : tie.Need-judge-counts-requires
 judge-counts-requires c κs = search needs
 
 enum-told : tie.Need-enum-told
 enum-told c = search needs
 
--- src/jobs.rt:100:9
 enum-told-2 : tie.Need-enum-told-2
 enum-told-2 c = search needs
 
--- src/jobs.rt:100:9
 returns : tie.Need-returns
 returns c =
     let s = c .before .before .before in
     refused-ends _ (s .args .k) (s .args .l) (s .args .s) (refusal-stands _ _ _ _ _ (c .before .before .judge-counts .ensures) (c .enum-told2 .given .1) ∙ counts-first _) (c .enum-told2 .given .1)
 
--- src/jobs.rt:103:5
 lay-out-requires : tie.Need-lay-out-requires
 lay-out-requires c κs =
     let counts = c .before .before .before .judge-counts .ensures in
     (has-room _ (sym counts ∙ c .before .enum-told .given .1), blank-blocks)
 
--- src/jobs.rt:104:24
 index-requires : tie.Need-index-requires
 index-requires c κs = search needs
 
--- src/jobs.rt:104:40
 index-requires-2 : tie.Need-index-requires-2
 index-requires-2 c κs = search needs
 
--- src/jobs.rt:104:60
 index-requires-3 : tie.Need-index-requires-3
 index-requires-3 c κs = search needs
 
--- src/jobs.rt:104:73
 index-requires-4 : tie.Need-index-requires-4
 index-requires-4 c κs = search needs
 
--- src/jobs.rt:104:5
 end-in-grid-requires : tie.Need-end-in-grid-requires
 end-in-grid-requires c κs =
     let l = c .before .before .before .before .before in
@@ -64,7 +55,6 @@ end-in-grid-requires c κs =
     let means = laid-out-means _ _ (l .lay-out .ensures) _ _ (c .before .before .before .index .ensures .0) (c .before .before .index2 .ensures .0) in
     ap countsJudged means ∙ sym counts ∙ l .before .before .enum-told .given .1
 
--- src/jobs.rt:95:1
 returns-2 : tie.Need-returns-2
 returns-2 c =
     let l = c .before .before .before .before .before .before in

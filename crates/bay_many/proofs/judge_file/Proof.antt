@@ -15,77 +15,59 @@ use Rattle.bay_many.proofs.say.Reads as say-reads
 use Rattle.io.proofs.read_full.Reads as read-full-reads
 use Rattle.printing.proofs.print_text_in.Reads as print-text-in-reads
 
--- src/main.rt:66:9
 judged-part-requires : tie.Need-judged-part-requires
 judged-part-requires c κs = search needs
 
--- src/main.rt:67:18
 cast-wanted : tie.Need-cast-wanted
 cast-wanted c = search needs
 
--- src/main.rt:68:36
 slice-relend-prefix-read-full : tie.Need-slice-relend-prefix-read-full
 slice-relend-prefix-read-full c = search needs
 
--- src/main.rt:68:36
 slice-aggregate-read-full : tie.Need-slice-aggregate-read-full
 slice-aggregate-read-full c =
     let s = c .before .before .before .before in
     sym (length-take-le (c .before .judged-part .result) (s .args .space .now) (omega (arith, s .pre .0 .0, c .before .judged-part .ensures .0)))
 
--- src/main.rt:68:8
 read-full-requires : tie.Need-read-full-requires
 read-full-requires c κs = search needs
 
--- src/main.rt:69:9
 broken-requires : tie.Need-broken-requires
 broken-requires c κs = search needs
 
--- src/main.rt:69:9
 same-length : tie.Need-same-length
 same-length c = search needs
 
--- src/main.rt:69:9
 returns : tie.Need-returns
 returns c = search needs
 
--- src/main.rt:71:19
 sub-pass-over : tie.Need-sub-pass-over
 sub-pass-over c = search needs
 
--- src/main.rt:71:9
 pass-over-requires : tie.Need-pass-over-requires
 pass-over-requires c κs = search needs
 
--- src/main.rt:72:9
 broken-requires-2 : tie.Need-broken-requires-2
 broken-requires-2 c κs = search needs
 
--- src/main.rt:72:9
 same-length-2 : tie.Need-same-length-2
 same-length-2 c = search needs
 
--- src/main.rt:72:9
 same-length-3 : tie.Need-same-length-3
 same-length-3 c = search needs
 
--- src/main.rt:72:9
 returns-2 : tie.Need-returns-2
 returns-2 c = search needs
 
--- src/main.rt:74:9
 slice-aggregate-say : tie.Need-slice-aggregate-say
 slice-aggregate-say c = search needs
 
--- src/main.rt:74:5
 say-requires : tie.Need-say-requires
 say-requires c κs = search needs
 
--- src/main.rt:75:29
 slice-reshare-prefix-print-text-in : tie.Need-slice-reshare-prefix-print-text-in
 slice-reshare-prefix-print-text-in c = search needs
 
--- src/main.rt:75:29
 slice-aggregate-print-text-in : tie.Need-slice-aggregate-print-text-in
 slice-aggregate-print-text-in c =
     let j = c .before .before .before .before .before .before .before .before .before .before .before .before .before in
@@ -95,19 +77,15 @@ slice-aggregate-print-text-in c =
     let k : length (take n xs) ≡ n = length-take-le n xs (omega (arith, s .pre .0 .0, j .judged-part .ensures .0)) in
     sym (length-take-le n _ (simp length-append (omega (arith, k, c .before .before .before .before .before .before .before .before .before .before .before .read-full .kept .1 .0))))
 
--- src/main.rt:75:5
 print-text-in-requires : tie.Need-print-text-in-requires
 print-text-in-requires c κs = search needs
 
--- src/main.rt:55:1
 same-length-4 : tie.Need-same-length-4
 same-length-4 c = search needs
 
--- src/main.rt:55:1
 same-length-5 : tie.Need-same-length-5
 same-length-5 c = search needs
 
--- src/main.rt:55:1
 returns-3 : tie.Need-returns-3
 returns-3 c = search needs
 

@@ -17,39 +17,30 @@ Inv-loop space₀ grid₀ buf₀ k₀ space grid buf k = (k ≤ 4294967295) × (
 abbrev μ-loop : tie.MeasureT-loop
 μ-loop space₀ grid₀ buf₀ k₀ space grid buf k = 4294967295 - k
 
--- src/main.rt:109:5
 loop-holds : tie.Need-loop-holds Inv-loop μ-loop
 loop-holds c = (search needs, search needs, search needs, blank-blocks)
 
--- src/main.rt:109:41
 slice-aggregate-judge-next : tie.Need-slice-aggregate-judge-next Inv-loop μ-loop
 slice-aggregate-judge-next c = search needs
 
--- src/main.rt:109:64
 slice-aggregate-judge-next-2 : tie.Need-slice-aggregate-judge-next-2 Inv-loop μ-loop
 slice-aggregate-judge-next-2 c = search needs
 
--- src/main.rt:109:27
 judge-next-requires : tie.Need-judge-next-requires Inv-loop μ-loop
 judge-next-requires c κs = search needs
 
--- src/main.rt:110:9
 add-k : tie.Need-add-k Inv-loop μ-loop
 add-k c = search needs
 
--- src/main.rt:109:5
 loop-less : tie.Need-loop-less Inv-loop μ-loop
 loop-less c = search needs
 
--- src/main.rt:109:5
 loop-again : tie.Need-loop-again Inv-loop μ-loop
 loop-again c = search needs
 
--- src/main.rt:104:1
 returns : tie.Need-returns Inv-loop μ-loop
 returns c = search needs
 
--- src/main.rt:104:1
 returns-2 : tie.Need-returns-2 Inv-loop μ-loop
 returns-2 c = search needs
 

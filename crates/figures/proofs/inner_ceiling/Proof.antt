@@ -11,11 +11,9 @@ use Rattle.figures.proofs.inner_ceiling.Lts as lts
 use Rattle.holding.proofs.inner_ceiling.Reads as inner-ceiling-reads
 use Rattle.table.proofs.grid.lay_out_subsystem.Reads as lay-out-subsystem-reads
 
--- src/main.rt:128:5
 lay-out-subsystem-requires : tie.Need-lay-out-subsystem-requires
 lay-out-subsystem-requires c κs = (omega (arith, c .before .pre), blank-lines)
 
--- src/main.rt:129:19
 inner-ceiling-requires : tie.Need-inner-ceiling-requires
 inner-ceiling-requires c κs =
     let l = c .before in
@@ -27,14 +25,12 @@ inner-ceiling-requires c κs =
       listed = search needs;
     }
 
--- src/main.rt:129:19
 add-ceiling : tie.Need-add-ceiling
 add-ceiling c =
     let l = c .before .before in
     let counted = l .lay-out-subsystem .ensures .0 .count-is ∙ l .before .before .pre in
     omega (arith, c .inner-ceiling .ensures, counted, ceiling-is-a-task (l .lay-out-subsystem .last .1 .0) 0 1 (omega arith) (omega (arith, counted)))
 
--- src/main.rt:124:1
 returns : tie.Need-returns
 returns c = search needs
 

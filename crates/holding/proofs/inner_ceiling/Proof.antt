@@ -20,45 +20,36 @@ Inv-loop block m l n i₀ i = (n ≡ countIn block) × (i ≤ n) × CeilingFrom 
 abbrev μ-loop : tie.MeasureT-loop
 μ-loop block m l n i₀ i = n - i
 
--- src/lib.rt:31:9
 count-requires : tie.Need-count-requires Inv-loop μ-loop
 count-requires c κs = search needs
 
--- src/lib.rt:33:5
 loop-holds : tie.Need-loop-holds Inv-loop μ-loop
 loop-holds c = (search needs, search needs, ceiling-from-zero _ _)
 
--- src/lib.rt:34:16
 access-requires : tie.Need-access-requires Inv-loop μ-loop
 access-requires c κs = search needs
 
--- src/lib.rt:35:13
 returns : tie.Need-returns Inv-loop μ-loop
 returns c =
     let k = c .before .before .before in
     let a = k .before .before .args in
     ceiling-here (a .block .now) (a .l) (a .m) (k .before .before .pre .listed) (k .loop .i) _ (omega arith) (c .before .access .ensures) (c .if1 .taken) (k .loop .inv .2)
 
--- src/lib.rt:37:9
 add-i : tie.Need-add-i Inv-loop μ-loop
 add-i c = search needs
 
--- src/lib.rt:33:5
 loop-less : tie.Need-loop-less Inv-loop μ-loop
 loop-less c = search needs
 
--- src/lib.rt:33:5
 loop-again : tie.Need-loop-again Inv-loop μ-loop
 loop-again c =
     let k = c .before .before .before in
     let a = k .before .before .args in
     (search needs, search needs, ceiling-next (a .block .now) (a .l) (k .loop .i) _ (omega arith) (c .before .access .ensures) (c .if1 .left) (k .loop .inv .2))
 
--- src/lib.rt:39:5
 sub-result : tie.Need-sub-result Inv-loop μ-loop
 sub-result c = search needs
 
--- src/lib.rt:27:1
 returns-2 : tie.Need-returns-2 Inv-loop μ-loop
 returns-2 c =
     let k = c .before in

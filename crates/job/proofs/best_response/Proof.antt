@@ -1,4 +1,4 @@
--- `global::responses::best_response` meets its contract. The loop's invariant: the best of the resources passed so far.
+-- `job::best_response` meets its contract. The loop's invariant: the best of the resources passed so far.
 -- Assumes nothing.
 use Prim.Native.Nat.{_≤_, _-_}
 use native.Mathlib.Nat.{pos-of-ne-zero}
@@ -30,27 +30,21 @@ Inv-loop periods costs frees holdings ceilings own k end ends best₀ l₀ best 
 abbrev μ-loop : tie.MeasureT-loop
 μ-loop periods costs frees holdings ceilings own k end ends best₀ l₀ best l = length holdings - l
 
--- src/responses.rt:102:5
 loop-holds : tie.Need-loop-holds Inv-loop μ-loop
 loop-holds c = (omega arith, best-none _)
 
--- src/responses.rt:103:20
 mul-held : tie.Need-mul-held Inv-loop μ-loop
 mul-held c = search needs
 
--- src/responses.rt:103:20
 shared-slice-read-held : tie.Need-shared-slice-read-held Inv-loop μ-loop
 shared-slice-read-held c = search needs
 
--- src/responses.rt:105:13
 add-l : tie.Need-add-l Inv-loop μ-loop
 add-l c = search needs
 
--- src/responses.rt:102:5
 loop-less : tie.Need-loop-less Inv-loop μ-loop
 loop-less c = turn-less _ _ (c .before .before .loop-test .taken)
 
--- src/responses.rt:102:5
 loop-again : tie.Need-loop-again Inv-loop μ-loop
 unfolding held ceiling
 loop-again c =
@@ -58,21 +52,17 @@ loop-again c =
     let h = i .before .loop in
     (turn-within _ _ (i .loop-test .taken), best-stays (responseWith _ _) (h .l) (h .inv .1) (uncounted-response _ _ (h .l) (omega (arith, c .if1 .taken))))
 
--- src/responses.rt:108:23
 mul-release : tie.Need-mul-release Inv-loop μ-loop
 mul-release c =
     let s = c .before .before .before .before .before .before .before .before .before .before in
     omega (arith, released-before-end _ (s .pre .0) (s .pre .1 .0), budget-end-within _ (s .pre .0) (s .pre .1 .0), active-within _ (s .pre .0) (s .pre .1 .0 .is-active))
 
--- src/responses.rt:109:54
 mul-response-with : tie.Need-mul-response-with Inv-loop μ-loop
 mul-response-with c = search needs
 
--- src/responses.rt:109:54
 shared-slice-read-response-with : tie.Need-shared-slice-read-response-with Inv-loop μ-loop
 shared-slice-read-response-with c = search needs
 
--- src/responses.rt:109:13
 response-with-requires : tie.Need-response-with-requires Inv-loop μ-loop
 unfolding held ceiling
 response-with-requires c κs =
@@ -84,19 +74,15 @@ response-with-requires c κs =
     let reaches = s .pre .0 .ceiling-reaches (i .before .loop .l) (i .loop-test .taken) counts in
     ((λ t u. at .0 t (omega (arith, u, reaches)), at .1), (after-end _ (s .pre .0) (s .pre .1 .0) (i .before .loop .l) (i .loop-test .taken) (s .pre .1 .1 .0) counts, (omega (arith, released-before-end _ (s .pre .0) (s .pre .1 .0), s .pre .1 .1 .0), frees-fewer _ (s .pre .1 .1 .1 .1) (omega (arith, reaches)))))
 
--- src/responses.rt:110:9
 better-requires : tie.Need-better-requires Inv-loop μ-loop
 better-requires c κs = search needs
 
--- src/responses.rt:111:9
 add-l-2 : tie.Need-add-l-2 Inv-loop μ-loop
 add-l-2 c = search needs
 
--- src/responses.rt:102:5
 loop-less-2 : tie.Need-loop-less-2 Inv-loop μ-loop
 loop-less-2 c = turn-less _ _ (c .before .before .before .before .before .before .loop-test .taken)
 
--- src/responses.rt:102:5
 loop-again-2 : tie.Need-loop-again-2 Inv-loop μ-loop
 unfolding held ceiling
 loop-again-2 c =
@@ -107,7 +93,6 @@ loop-again-2 c =
     let here = responds _ (s .pre .0) (s .pre .1 .0) (h .l) (i .loop-test .taken) (s .pre .1 .1 .0) (pos-of-ne-zero (e .if1 .left)) (c .before .response-with .ensures) in
     (turn-within _ _ (i .loop-test .taken), best-step (responseWith _ (s .args .k)) (h .l) (h .inv .1) here (c .better .ensures))
 
--- src/responses.rt:86:1
 returns : tie.Need-returns Inv-loop μ-loop
 returns c =
     let s = c .before .before .before .before .before .before .before in

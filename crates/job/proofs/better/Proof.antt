@@ -1,4 +1,4 @@
--- `global::responses::better` meets its contract, by its test. Assumes nothing.
+-- `job::better` meets its contract, by its test. Assumes nothing.
 use borrow.Author.Tests.{lt-ltb, le-ltb}
 use Rattle.job.proofs.better.Statement.{statement}
 use Rattle.job.proofs.better.Tie as tie

@@ -1,4 +1,4 @@
--- `global::responses::job_response` meets its contract: Q + X tells whether a resource is held. Assumes nothing.
+-- `job::job_response` meets its contract: Q + X tells whether a resource is held. Assumes nothing.
 use native.Mathlib.Omega.{arith}
 use borrow.Author.Needs.{needs}
 use Rattle.job.proofs.ActiveLaws.{active-within}

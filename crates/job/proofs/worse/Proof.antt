@@ -1,4 +1,4 @@
--- `global::responses::worse` meets its contract, by its test. Assumes nothing.
+-- `job::worse` meets its contract, by its test. Assumes nothing.
 use borrow.Author.Tests.{lt-ltb, le-ltb}
 use Rattle.job.proofs.worse.Statement.{statement}
 use Rattle.job.proofs.worse.Tie as tie

@@ -13,36 +13,29 @@ use Rattle.judge.proofs.judge_counts.Reads as judge-counts-reads
 use Rattle.judge.proofs.judge_grid.Reads as judge-grid-reads
 use Rattle.table.proofs.grid.lay_out.Reads as lay-out-reads
 
--- src/lib.rt:131:9
 judge-counts-requires : tie.Need-judge-counts-requires
 judge-counts-requires c κs = search needs
 
 enum-told : tie.Need-enum-told
 enum-told c = search needs
 
--- src/lib.rt:133:9
 enum-told-2 : tie.Need-enum-told-2
 enum-told-2 c = search needs
 
--- src/lib.rt:133:9
 returns : tie.Need-returns
 returns c = refusal-stands _ _ _ _ _ (c .before .before .judge-counts .ensures) (c .enum-told2 .given .1) ∙ counts-first _
 
--- src/lib.rt:136:5
 lay-out-requires : tie.Need-lay-out-requires
 lay-out-requires c κs =
     let counts = c .before .before .before .judge-counts .ensures in
     (has-room _ (sym counts ∙ c .before .enum-told .given .1), blank-blocks)
 
--- src/lib.rt:138:23
 index-requires : tie.Need-index-requires
 index-requires c κs = search needs
 
--- src/lib.rt:138:39
 index-requires-2 : tie.Need-index-requires-2
 index-requires-2 c κs = search needs
 
--- src/lib.rt:138:5
 judge-grid-requires : tie.Need-judge-grid-requires
 judge-grid-requires c κs =
     let l = c .before .before .before .before in
@@ -50,7 +43,6 @@ judge-grid-requires c κs =
     let means = laid-out-means _ _ (l .lay-out .ensures) _ _ (c .before .before .index .ensures .0) (c .before .index2 .ensures .0) in
     (ap countsJudged means ∙ sym counts ∙ l .before .before .enum-told .given .1, refl)
 
--- src/lib.rt:128:1
 returns-2 : tie.Need-returns-2
 returns-2 c =
     let l = c .before .before .before .before .before in

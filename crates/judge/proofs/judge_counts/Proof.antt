@@ -11,30 +11,24 @@ use Rattle.numbers.proofs.index.Reads as index-reads
 use Rattle.rules.proofs.breaks.count_out.Reads as count-out-reads
 use Rattle.judge.proofs.refused_by_counts.Reads as refused-by-counts-reads
 
--- src/lib.rt:57:8
 count-out-requires : tie.Need-count-out-requires
 count-out-requires c κs = search needs
 
--- src/lib.rt:58:9
 returns : tie.Need-returns
 returns c = refused-by-n _ _ (c .before .count-out .ensures) (c .if1 .taken)
 
--- src/lib.rt:60:22
 index-requires : tie.Need-index-requires
 index-requires c κs = search needs
 
--- src/lib.rt:61:9
 returns-2 : tie.Need-returns-2
 returns-2 c =
     refused-by-m _ _ (c .before .before .before .count-out .ensures) (c .before .before .if1 .left) (omega (arith, c .before .index .ensures, c .if2 .taken))
 
--- src/lib.rt:63:5
 refused-by-counts-requires : tie.Need-refused-by-counts-requires
 refused-by-counts-requires c κs =
     let a = c .before .before .before .before .args in
     count-in-range (a .t) _ (c .before .before .before .count-out .ensures) (c .before .before .if1 .left) .1
 
--- src/lib.rt:50:1
 returns-3 : tie.Need-returns-3
 returns-3 c =
     let i = c .before .before in

@@ -10,18 +10,15 @@ use Rattle.judge.proofs.judge_grid.Lts as lts
 use Rattle.judge.proofs.refused_by_overrun.Reads as refused-by-overrun-reads
 use Rattle.judge.proofs.refused_in_order.Reads as refused-in-order-reads
 
--- src/lib.rt:120:9
 refused-in-order-requires : tie.Need-refused-in-order-requires
 refused-in-order-requires c κs = counted-grid _ _ _ (c .pre .0)
 
 enum-told : tie.Need-enum-told
 enum-told c = search needs
 
--- src/lib.rt:122:9
 enum-told-2 : tie.Need-enum-told-2
 enum-told-2 c = search needs
 
--- src/lib.rt:122:9
 returns : tie.Need-returns
 returns c =
     let told = c .enum-told2 .given .1 in (
@@ -29,13 +26,11 @@ returns c =
       λ e. absurd (refused-not-admitted _ _ (sym told ∙ e)),
     )
 
--- src/lib.rt:124:5
 refused-by-overrun-requires : tie.Need-refused-by-overrun-requires
 refused-by-overrun-requires c κs =
     let s = c .before .before .before .before in
     (counted-grid _ _ _ (s .pre .0), s .pre .1)
 
--- src/lib.rt:109:1
 returns-2 : tie.Need-returns-2
 returns-2 c =
     let o = c .before .before .before .before in (

@@ -1,3 +1,4 @@
+-- `judge::judge_one` meets its contract. Assumes nothing.
 use native.Mathlib.Omega.{arith}
 use Rattle.rules.proofs.OrderLaws.{one-judged, one-refused}
 use borrow.Author.Needs.{needs}
@@ -7,15 +8,12 @@ use Rattle.judge.proofs.judge_one.Reads as reads
 use Rattle.judge.proofs.judge_one.Lts as lts
 use Rattle.judge.proofs.judge.Reads as judge-reads
 
--- src/lib.rt:122:9
 judge-requires : tie.Need-judge-requires
 judge-requires c κs = search needs
 
--- src/lib.rt:122:9
 returns : tie.Need-returns
 returns c = one-judged (c .before .before .before .args .t) _ (c .before .if1 .taken) (c .judge .ensures)
 
--- src/lib.rt:118:1
 returns-2 : tie.Need-returns-2
 returns-2 c = one-refused (c .before .before .args .t) (c .if1 .left)
 

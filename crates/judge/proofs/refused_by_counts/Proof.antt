@@ -20,44 +20,34 @@ Inv-loop t n s₀ s = (n ≡ t .count) × (s ≤ n) × OffendersFrom (meaning t)
 abbrev μ-loop : tie.MeasureT-loop
 μ-loop t n s₀ s = n - s
 
--- src/lib.rt:36:9
 index-requires : tie.Need-index-requires Inv-loop μ-loop
 index-requires c κs = search needs
 
--- src/lib.rt:38:5
 loop-holds : tie.Need-loop-holds Inv-loop μ-loop
 loop-holds c = (search needs, search needs, offenders-from-zero _ _ _ (count-of-subsystems _))
 
--- src/lib.rt:39:21
 mul-count : tie.Need-mul-count Inv-loop μ-loop
 mul-count c = search needs
 
--- src/lib.rt:39:13
 element-copy-out-count : tie.Need-element-copy-out-count Inv-loop μ-loop
 element-copy-out-count c = search needs
 
--- src/lib.rt:40:9
 add-s : tie.Need-add-s Inv-loop μ-loop
 add-s c = search needs
 
--- src/lib.rt:41:12
 count-out-requires : tie.Need-count-out-requires Inv-loop μ-loop
 count-out-requires c κs = search needs
 
--- src/lib.rt:42:29
 cast-subsystem : tie.Need-cast-subsystem Inv-loop μ-loop
 cast-subsystem c = search needs
 
--- src/lib.rt:43:13
 returns : tie.Need-returns Inv-loop μ-loop
 returns c =
     offender-here _ Counts _ _ _ (omega arith) (counts-here _ _ (omega arith) _ (c .before .count-out .ensures) (c .if1 .taken)) (c .before .before .before .loop .inv .2)
 
--- src/lib.rt:38:5
 loop-less : tie.Need-loop-less Inv-loop μ-loop
 loop-less c = search needs
 
--- src/lib.rt:38:5
 loop-again : tie.Need-loop-again Inv-loop μ-loop
 loop-again c = (
   search needs,
@@ -65,7 +55,6 @@ loop-again c = (
   offenders-next _ Counts _ _ (omega arith) (counts-nowhere _ _ (omega arith) _ (c .before .count-out .ensures) (c .if1 .left)) (c .before .before .before .loop .inv .2),
 )
 
--- src/lib.rt:32:1
 returns-2 : tie.Need-returns-2 Inv-loop μ-loop
 returns-2 c = offenders-over _ Counts _ _ (omega arith) (c .before .loop .inv .2)
 

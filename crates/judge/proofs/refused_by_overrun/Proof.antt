@@ -32,51 +32,39 @@ Inv-loop grid n m holdings₀ s₀ holdings s =
 abbrev μ-loop : tie.MeasureT-loop
 μ-loop grid n m holdings₀ s₀ holdings s = n - s
 
--- src/lib.rt:93:5
 loop-holds : tie.Need-loop-holds Inv-loop μ-loop
 loop-holds c = (search needs, offenders-from-zero _ Overrun _ (count-of-grid _ _ _), c .pre .1 ∙ sym (padded-none _ _ most))
 
--- src/lib.rt:94:21
 mul-block : tie.Need-mul-block Inv-loop μ-loop
 mul-block c = search needs
 
--- src/lib.rt:94:13
 index-1-block : tie.Need-index-1-block Inv-loop μ-loop
 index-1-block c = search needs
 
--- src/lib.rt:95:13
 held-by-requires : tie.Need-held-by-requires Inv-loop μ-loop
 held-by-requires c κs = c .before .before .before .pre .0 .counted _ (c .before .loop-test .taken)
 
--- src/lib.rt:96:17
 period-requires : tie.Need-period-requires Inv-loop μ-loop
 period-requires c κs = search needs
 
--- src/lib.rt:96:12
 wide-requires : tie.Need-wide-requires Inv-loop μ-loop
 wide-requires c κs = search needs
 
--- src/lib.rt:96:39
 budget-requires : tie.Need-budget-requires Inv-loop μ-loop
 budget-requires c κs = search needs
 
--- src/lib.rt:96:34
 wide-requires-2 : tie.Need-wide-requires-2 Inv-loop μ-loop
 wide-requires-2 c κs = search needs
 
--- src/lib.rt:96:34
 add-if1 : tie.Need-add-if1 Inv-loop μ-loop
 add-if1 c = omega (arith, c .before .wide2 .ensures .1, c .before .before .before .before .before .held-by .ensures .largest-fits)
 
--- src/lib.rt:97:30
 add-subsystem : tie.Need-add-subsystem Inv-loop μ-loop
 add-subsystem c = search needs
 
--- src/lib.rt:97:29
 cast-subsystem : tie.Need-cast-subsystem Inv-loop μ-loop
 cast-subsystem c = search needs
 
--- src/lib.rt:98:13
 returns : tie.Need-returns Inv-loop μ-loop
 returns c =
     let w = c .before .before in
@@ -88,23 +76,18 @@ returns c =
     let rule = own-overrun (s .args .m) (blockIn g (k .loop .s)) _ _ _ (w .before .before .wide .ensures .0 ∙ w .before .before .before .period .ensures) (w .wide2 .ensures .0 ∙ w .before .budget .ensures) (h .held-by .ensures .largest-is) in
     (offender-here _ Overrun _ _ _ below (overrun-here (s .args .n) (s .args .m) g (k .loop .s) below _ rule (lt-ltb _ _ (c .if1 .taken))) (k .loop .inv .1), λ e. absurd (refused-not-admitted _ _ e))
 
--- src/lib.rt:101:9
 mul-each : tie.Need-mul-each Inv-loop μ-loop
 mul-each c = search needs
 
--- src/lib.rt:101:9
 element-set-from-each : tie.Need-element-set-from-each Inv-loop μ-loop
 element-set-from-each c = search needs
 
--- src/lib.rt:102:9
 add-s : tie.Need-add-s Inv-loop μ-loop
 add-s c = search needs
 
--- src/lib.rt:93:5
 loop-less : tie.Need-loop-less Inv-loop μ-loop
 loop-less c = search needs
 
--- src/lib.rt:93:5
 loop-again : tie.Need-loop-again Inv-loop μ-loop
 loop-again c =
     let w = c .before .before .before in
@@ -119,7 +102,6 @@ loop-again c =
       padded-turn (holdingsAt (systemIn (s .args .n) (s .args .m) g)) (replicate most 0) most (k .loop .s) (omega (arith, below, s .pre .0 .subsystems-most)) (k .loop .holdings) _ (k .loop .inv .2) (h .held-by .ensures .each-is ∙ held-of-block (s .args .n) (s .args .m) g (k .loop .s) below),
     )
 
--- src/lib.rt:81:1
 returns-2 : tie.Need-returns-2 Inv-loop μ-loop
 returns-2 c =
     let k = c .before in

@@ -15,46 +15,36 @@ Inv-loop grid n m found₀ s₀ found s = (s ≤ n) × JudgedBelow n m grid s fo
 abbrev μ-loop : tie.MeasureT-loop
 μ-loop grid n m found₀ s₀ found s = n - s
 
--- src/lib.rt:73:5
 loop-holds : tie.Need-loop-holds Inv-loop μ-loop
 loop-holds c = (search needs, judged-none _ _ _)
 
--- src/lib.rt:74:39
 mul-with-subsystem : tie.Need-mul-with-subsystem Inv-loop μ-loop
 mul-with-subsystem c = search needs
 
--- src/lib.rt:74:39
 index-1-with-subsystem : tie.Need-index-1-with-subsystem Inv-loop μ-loop
 index-1-with-subsystem c = search needs
 
--- src/lib.rt:74:53
 add-with-subsystem : tie.Need-add-with-subsystem Inv-loop μ-loop
 add-with-subsystem c = search needs
 
--- src/lib.rt:74:52
 cast-with-subsystem : tie.Need-cast-with-subsystem Inv-loop μ-loop
 cast-with-subsystem c = search needs
 
--- src/lib.rt:74:9
 with-subsystem-requires : tie.Need-with-subsystem-requires Inv-loop μ-loop
 with-subsystem-requires c κs = c .before .before .before .pre .counted _ (c .before .loop-test .taken)
 
--- src/lib.rt:75:9
 add-s : tie.Need-add-s Inv-loop μ-loop
 add-s c = search needs
 
--- src/lib.rt:73:5
 loop-less : tie.Need-loop-less Inv-loop μ-loop
 loop-less c = search needs
 
--- src/lib.rt:73:5
 loop-again : tie.Need-loop-again Inv-loop μ-loop
 loop-again c =
     let k = c .before .before .before in
     let s = k .before in
     (search needs, judged-one (s .args .n) (s .args .m) (s .args .grid .now) (k .loop .s) (k .loop .found) _ (omega arith) (k .loop .inv .1) (c .with-subsystem .ensures))
 
--- src/lib.rt:67:1
 returns : tie.Need-returns Inv-loop μ-loop
 returns c =
     let k = c .before in

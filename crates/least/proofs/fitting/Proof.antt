@@ -17,38 +17,30 @@ Inv-loop periods costs n sum₀ j₀ sum j = (j ≤ n) × (sum ≡ shares period
 abbrev μ-loop : tie.MeasureT-loop
 μ-loop periods costs n sum₀ j₀ sum j = n - j
 
--- src/lib.rt:71:5
 loop-holds : tie.Need-loop-holds Inv-loop μ-loop
 loop-holds c = (search needs, sym (shares-none _ _), search needs)
 
--- src/lib.rt:72:25
 mul-share-of : tie.Need-mul-share-of Inv-loop μ-loop
 mul-share-of c = search needs
 
--- src/lib.rt:72:25
 shared-slice-read-share-of : tie.Need-shared-slice-read-share-of Inv-loop μ-loop
 shared-slice-read-share-of c = search needs
 
--- src/lib.rt:72:37
 mul-share-of-2 : tie.Need-mul-share-of-2 Inv-loop μ-loop
 mul-share-of-2 c = search needs
 
--- src/lib.rt:72:37
 shared-slice-read-share-of-2 : tie.Need-shared-slice-read-share-of-2 Inv-loop μ-loop
 shared-slice-read-share-of-2 c = search needs
 
--- src/lib.rt:72:16
 share-of-requires : tie.Need-share-of-requires Inv-loop μ-loop
 share-of-requires c κs =
     let s = c .before .before .before .before .before .before in
     let u = c .before .before .loop-test .taken in
     (s .pre .period-pos _ u, s .pre .cost-small _ u)
 
--- src/lib.rt:72:9
 add-sum : tie.Need-add-sum Inv-loop μ-loop
 add-sum c = search needs
 
--- src/lib.rt:74:13
 returns : tie.Need-returns Inv-loop μ-loop
 returns c =
     let k = c .before in
@@ -56,15 +48,12 @@ returns c =
     let h = i .before .loop in
     record { few = omega (arith, i .loop-test .taken); fits = omega (arith, h .inv .1, h .inv .2); over = λ _. omega (arith, shares-turn _ _ (h .j) (h .sum) _ (h .inv .1) (k .share-of .ensures .0), c .if1 .taken) }
 
--- src/lib.rt:76:9
 add-j : tie.Need-add-j Inv-loop μ-loop
 add-j c = search needs
 
--- src/lib.rt:71:5
 loop-less : tie.Need-loop-less Inv-loop μ-loop
 loop-less c = search needs
 
--- src/lib.rt:71:5
 loop-again : tie.Need-loop-again Inv-loop μ-loop
 loop-again c =
     let k = c .before in
@@ -72,7 +61,6 @@ loop-again c =
     let h = i .before .loop in
     (omega (arith, i .loop-test .taken), shares-turn _ _ (h .j) (h .sum) _ (h .inv .1) (k .share-of .ensures .0), c .if1 .left)
 
--- src/lib.rt:65:1
 returns-2 : tie.Need-returns-2 Inv-loop μ-loop
 returns-2 c =
     let h = c .before .loop in

@@ -11,23 +11,18 @@ use Rattle.least.proofs.share_of.Reads as reads
 use Rattle.least.proofs.share_of.Lts as lts
 use Rattle.numbers.proofs.wide.Reads as wide-reads
 
--- src/lib.rt:59:5
 wide-requires : tie.Need-wide-requires
 wide-requires c κs = search needs
 
--- src/lib.rt:59:5
 mul-result : tie.Need-mul-result
 mul-result c = search needs
 
--- src/lib.rt:59:25
 wide-requires-2 : tie.Need-wide-requires-2
 wide-requires-2 c κs = search needs
 
--- src/lib.rt:59:5
 div-result : tie.Need-div-result
 div-result c = search needs
 
--- src/lib.rt:55:1
 returns : tie.Need-returns
 returns c =
     let top = ap (λ (x : _). x * unit) (c .before .wide .ensures .0) in

@@ -20,48 +20,38 @@ Inv-loop periods costs n sum₀ j₀ sum j =
 abbrev μ-loop : tie.MeasureT-loop
 μ-loop periods costs n sum₀ j₀ sum j = n - j
 
--- src/lib.rt:70:5
 loop-holds : tie.Need-loop-holds Inv-loop μ-loop
 loop-holds c = (search needs, sym (shares-none _ _), omega arith)
 
--- src/lib.rt:71:25
 mul-share-of : tie.Need-mul-share-of Inv-loop μ-loop
 mul-share-of c = search needs
 
--- src/lib.rt:71:25
 shared-slice-read-share-of : tie.Need-shared-slice-read-share-of Inv-loop μ-loop
 shared-slice-read-share-of c = search needs
 
--- src/lib.rt:71:37
 mul-share-of-2 : tie.Need-mul-share-of-2 Inv-loop μ-loop
 mul-share-of-2 c = search needs
 
--- src/lib.rt:71:37
 shared-slice-read-share-of-2 : tie.Need-shared-slice-read-share-of-2 Inv-loop μ-loop
 shared-slice-read-share-of-2 c = search needs
 
--- src/lib.rt:71:16
 share-of-requires : tie.Need-share-of-requires Inv-loop μ-loop
 share-of-requires c κs =
     let s = c .before .before .before .before .before .before in
     let u = c .before .before .loop-test .taken in
     (s .pre .period-pos _ u, s .pre .cost-small _ u)
 
--- src/lib.rt:71:9
 add-sum : tie.Need-add-sum Inv-loop μ-loop
 add-sum c =
     let i = c .before .before .before in
     omega (arith, i .before .loop .inv .2, i .loop-test .taken, i .before .before .before .before .pre .few, c .share-of .ensures .1)
 
--- src/lib.rt:72:9
 add-j : tie.Need-add-j Inv-loop μ-loop
 add-j c = search needs
 
--- src/lib.rt:70:5
 loop-less : tie.Need-loop-less Inv-loop μ-loop
 loop-less c = search needs
 
--- src/lib.rt:70:5
 loop-again : tie.Need-loop-again Inv-loop μ-loop
 loop-again c =
     let i = c .before .before .before in
@@ -76,15 +66,12 @@ all-shares c =
     let all : h .j ≡ s .args .n = omega (arith, c .loop-test .left, h .inv .0) in
     h .inv .1 ∙ ap (λ (k : ℕ). shares (now (s .args .periods)) (now (s .args .costs)) k) all
 
--- src/lib.rt:75:9
 returns : tie.Need-returns Inv-loop μ-loop
 returns c = omega (arith, all-shares (c .before), c .if1 .taken)
 
--- src/lib.rt:77:5
 sub-result : tie.Need-sub-result Inv-loop μ-loop
 sub-result c = search needs
 
--- src/lib.rt:64:1
 returns-2 : tie.Need-returns-2 Inv-loop μ-loop
 returns-2 c = omega (arith, all-shares (c .before), c .if1 .left)
 

@@ -15,31 +15,24 @@ use Rattle.numbers.proofs.wide.Reads as wide-reads
 reached-is : (c : tie.After-wide) → c .wide .result * unit / c .before .args .spare ≡ c .before .args .constant * unit / c .before .args .spare
 reached-is c = ap (λ (k : ℕ). k * unit / c .before .args .spare) (c .wide .ensures .0)
 
--- src/lib.rt:86:19
 wide-requires : tie.Need-wide-requires
 wide-requires c κs = search needs
 
--- src/lib.rt:86:19
 mul-reached : tie.Need-mul-reached
 mul-reached c = search needs
 
--- src/lib.rt:86:19
 div-reached : tie.Need-div-reached
 div-reached c = search needs
 
--- src/lib.rt:87:8
 wide-requires-2 : tie.Need-wide-requires-2
 wide-requires-2 c κs = search needs
 
--- src/lib.rt:88:9
 returns : tie.Need-returns
 returns c = standing-beyond _ _ _ (reached-is (c .before .before)) (omega (arith, c .if1 .taken, c .before .wide2 .ensures .0))
 
--- src/lib.rt:90:5
 cast-result : tie.Need-cast-result
 cast-result c = search needs
 
--- src/lib.rt:82:1
 returns-2 : tie.Need-returns-2
 returns-2 c = standing-there _ _ _ (reached-is (c .before .before)) (omega (arith, c .if1 .left, c .before .wide2 .ensures .0))
 

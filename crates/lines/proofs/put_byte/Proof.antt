@@ -1,3 +1,4 @@
+-- `lines::put_byte` meets its contract. Assumes nothing.
 use native.Mathlib.Omega.{arith}
 use Rattle.lines.proofs.WrittenLaws.{written-byte}
 use borrow.Author.Needs.{needs}
@@ -6,19 +7,15 @@ use Rattle.lines.proofs.put_byte.Tie as tie
 use Rattle.lines.proofs.put_byte.Reads as reads
 use Rattle.lines.proofs.put_byte.Lts as lts
 
--- src/lib.rt:16:5
 slice-write-buf : tie.Need-slice-write-buf
 slice-write-buf c = search needs
 
--- src/lib.rt:17:5
 add-result : tie.Need-add-result
 add-result c = search needs
 
--- src/lib.rt:12:1
 same-length : tie.Need-same-length
 same-length c = search needs
 
--- src/lib.rt:12:1
 returns : tie.Need-returns
 returns c = (search needs, written-byte _ _ _ (search needs))
 

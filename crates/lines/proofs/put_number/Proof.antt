@@ -11,34 +11,27 @@ use Rattle.lines.proofs.digit.Reads as digit-reads
 use Rattle.lines.proofs.put_byte.Reads as put-byte-reads
 use Rattle.lines.proofs.put_digits.Reads as put-digits-reads
 
--- src/lib.rt:40:34
 digit-requires : tie.Need-digit-requires
 digit-requires c κs = omega arith
 
--- src/lib.rt:40:9
 put-byte-requires : tie.Need-put-byte-requires
 put-byte-requires c κs =
     omega (arith, one-digit (c .before .before .before .before .args .n) (c .before .before .if1 .taken), c .before .before .before .before .pre)
 
--- src/lib.rt:40:9
 same-length : tie.Need-same-length
 same-length c = c .before .before .put-byte .kept .0
 
--- src/lib.rt:40:9
 returns : tie.Need-returns
 returns c =
     let a = c .before .before .before .before .before .before .before .args in
     small-number (a .buf .now) (a .at) (a .n) _ _ _ (omega arith) (c .before .before .before .digit .ensures) (c .before .before .put-byte .ensures .0) (c .before .before .put-byte .ensures .1)
 
--- src/lib.rt:42:5
 put-digits-requires : tie.Need-put-digits-requires
 put-digits-requires c κs = search needs
 
--- src/lib.rt:35:1
 same-length-2 : tie.Need-same-length-2
 same-length-2 c = search needs
 
--- src/lib.rt:35:1
 returns-2 : tie.Need-returns-2
 returns-2 c = search needs
 

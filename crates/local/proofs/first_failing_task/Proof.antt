@@ -28,7 +28,6 @@ Inv-loop block m held end blockings n separations₀ works₀ i₀ separations w
 abbrev μ-loop : tie.MeasureT-loop
 μ-loop block m held end blockings n separations₀ works₀ i₀ separations works i = n - i
 
--- src/lib.rt:69:21
 task-blockings-requires : tie.Need-task-blockings-requires Inv-loop μ-loop
 task-blockings-requires c κs = (
   record {
@@ -39,11 +38,9 @@ task-blockings-requires c κs = (
   c .pre .1,
 )
 
--- src/lib.rt:70:9
 count-requires : tie.Need-count-requires Inv-loop μ-loop
 count-requires c κs = search needs
 
--- src/lib.rt:74:5
 loop-holds : tie.Need-loop-holds Inv-loop μ-loop
 loop-holds c = (
   search needs,
@@ -56,15 +53,12 @@ loop-holds c = (
   failing-from-zero _ _ _,
 )
 
--- src/lib.rt:75:43
 mul-task-passes : tie.Need-mul-task-passes Inv-loop μ-loop
 mul-task-passes c = search needs
 
--- src/lib.rt:75:43
 array-read-task-passes : tie.Need-array-read-task-passes Inv-loop μ-loop
 array-read-task-passes c = search needs
 
--- src/lib.rt:75:13
 task-passes-requires : tie.Need-task-passes-requires Inv-loop μ-loop
 task-passes-requires c κs =
     let k = c .before .before .before in
@@ -74,15 +68,12 @@ task-passes-requires c κs =
     let below : k .loop .i < countIn b = omega (arith, c .before .before .loop-test .taken, k .loop .inv .0) in
     (s .pre .0, (below, blocking-read (subsystemIn (s .args .m) b) (s .args .m) (countIn b) (k .loop .i) _ (p .task-blockings .ensures) below, k .loop .inv .3))
 
--- src/lib.rt:76:21
 add-result : tie.Need-add-result Inv-loop μ-loop
 add-result c = search needs
 
--- src/lib.rt:76:20
 cast-result : tie.Need-cast-result Inv-loop μ-loop
 cast-result c = search needs
 
--- src/lib.rt:76:13
 returns : tie.Need-returns Inv-loop μ-loop
 returns c =
     let k = c .before .before .before .before .before in
@@ -90,39 +81,30 @@ returns c =
     let below = c .before .before .before .before .loop-test .taken in
     failing-here (s .args .m) (s .args .block .now) (s .args .end) (k .loop .i) (omega (arith, below, k .loop .inv .0)) _ (c .before .task-passes .ensures) (c .if1 .taken) (k .loop .inv .4)
 
--- src/lib.rt:78:26
 separation-requires : tie.Need-separation-requires Inv-loop μ-loop
 separation-requires c κs = search needs
 
--- src/lib.rt:78:9
 mul-separations : tie.Need-mul-separations Inv-loop μ-loop
 mul-separations c = search needs
 
--- src/lib.rt:78:9
 array-write-separations : tie.Need-array-write-separations Inv-loop μ-loop
 array-write-separations c = search needs
 
--- src/lib.rt:79:20
 work-requires : tie.Need-work-requires Inv-loop μ-loop
 work-requires c κs = search needs
 
--- src/lib.rt:79:9
 mul-works : tie.Need-mul-works Inv-loop μ-loop
 mul-works c = search needs
 
--- src/lib.rt:79:9
 array-write-works : tie.Need-array-write-works Inv-loop μ-loop
 array-write-works c = search needs
 
--- src/lib.rt:80:9
 add-i : tie.Need-add-i Inv-loop μ-loop
 add-i c = search needs
 
--- src/lib.rt:74:5
 loop-less : tie.Need-loop-less Inv-loop μ-loop
 loop-less c = search needs
 
--- src/lib.rt:74:5
 loop-again : tie.Need-loop-again Inv-loop μ-loop
 loop-again c =
     let p = c .before .before .before in
@@ -141,7 +123,6 @@ loop-again c =
       failing-next (s .args .m) b (s .args .end) (k .loop .i) (omega (arith, below, k .loop .inv .0)) _ (p .task-passes .ensures) (c .before .before .if1 .left) (k .loop .inv .4),
     )
 
--- src/lib.rt:59:1
 returns-2 : tie.Need-returns-2 Inv-loop μ-loop
 returns-2 c =
     let k = c .before in

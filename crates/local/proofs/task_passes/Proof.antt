@@ -14,37 +14,29 @@ use Rattle.table.proofs.grid.deadline.Reads as deadline-reads
 use Rattle.table.proofs.grid.period.Reads as period-reads
 use Rattle.table.proofs.grid.work.Reads as work-reads
 
--- src/lib.rt:47:20
 wide-requires : tie.Need-wide-requires
 wide-requires c κs = search needs
 
--- src/lib.rt:47:41
 work-requires : tie.Need-work-requires
 work-requires c κs = omega (arith, c .before .pre .1 .0, tasks-within _ _ (c .before .pre .0 .sound))
 
--- src/lib.rt:47:36
 wide-requires-2 : tie.Need-wide-requires-2
 wide-requires-2 c κs = search needs
 
--- src/lib.rt:47:20
 add-constant : tie.Need-add-constant
 add-constant c = search needs
 
--- src/lib.rt:49:17
 period-requires : tie.Need-period-requires
 period-requires c κs = search needs
 
--- src/lib.rt:50:17
 budget-requires : tie.Need-budget-requires
 budget-requires c κs = search needs
 
--- src/lib.rt:53:59
 deadline-requires : tie.Need-deadline-requires
 deadline-requires c κs =
     let s : tie.Start = c .before .before .before .before .before .before .before in
     omega (arith, s .pre .1 .0, tasks-within _ _ (s .pre .0 .sound))
 
--- src/lib.rt:53:5
 held-within-requires : tie.Need-held-within-requires
 held-within-requires c κs =
     let p = c .before .before .before .before in
@@ -68,7 +60,6 @@ held-within-requires c κs =
       ),
     )
 
--- src/lib.rt:34:1
 returns : tie.Need-returns
 returns c =
     let d = c .before in

@@ -7,15 +7,12 @@ use Rattle.printing.proofs.print_text.Reads as reads
 use Rattle.printing.proofs.print_text.Lts as lts
 use Rattle.printing.proofs.print_text_in.Reads as print-text-in-reads
 
--- src/lib.rt:31:36
 slice-aggregate-print-text-in : tie.Need-slice-aggregate-print-text-in
 slice-aggregate-print-text-in c = search needs
 
--- src/lib.rt:31:5
 print-text-in-requires : tie.Need-print-text-in-requires
 print-text-in-requires c κs = blank-blocks
 
--- src/lib.rt:26:1
 returns : tie.Need-returns
 returns c = search needs
 

@@ -11,15 +11,12 @@ use Rattle.printing.proofs.print_text_in.Lts as lts
 use Rattle.io.proofs.write_all.Reads as write-all-reads
 use Rattle.text.proofs.check_text_in.Reads as check-text-in-reads
 
--- src/lib.rt:19:9
 check-text-in-requires : tie.Need-check-text-in-requires
 check-text-in-requires c κs = search needs
 
--- src/lib.rt:20:26
 enum-known-printed : tie.Need-enum-known-printed
 enum-known-printed c = search needs
 
--- src/lib.rt:21:38
 slice-reshare-prefix-write-all : tie.Need-slice-reshare-prefix-write-all
 slice-reshare-prefix-write-all c =
     omega (
@@ -28,7 +25,6 @@ slice-reshare-prefix-write-all c =
       c .before .before .before .before .before .check-text-in .kept .1 .1,
     )
 
--- src/lib.rt:21:38
 slice-aggregate-write-all : tie.Need-slice-aggregate-write-all
 slice-aggregate-write-all c =
     sym
@@ -39,26 +35,21 @@ slice-aggregate-write-all c =
       c .before .before .before .before .before .before .check-text-in .kept .1 .1,
     )))
 
--- src/lib.rt:21:9
 write-all-requires : tie.Need-write-all-requires
 write-all-requires c κs = search needs
 
 enum-told : tie.Need-enum-told
 enum-told c = search needs
 
--- src/lib.rt:11:1
 same-length : tie.Need-same-length
 same-length c = search needs
 
--- src/lib.rt:11:1
 returns : tie.Need-returns
 returns c = search needs
 
--- src/lib.rt:11:1
 same-length-2 : tie.Need-same-length-2
 same-length-2 c = search needs
 
--- src/lib.rt:11:1
 returns-2 : tie.Need-returns-2
 returns-2 c = search needs
 

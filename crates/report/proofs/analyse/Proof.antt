@@ -16,42 +16,34 @@ use Rattle.report.proofs.without_figures.Reads as without-figures-reads
 use Rattle.judge.proofs.judge_counts.Reads as judge-counts-reads
 use Rattle.table.proofs.grid.lay_out.Reads as lay-out-reads
 
--- src/lib.rt:68:9
 judge-counts-requires : tie.Need-judge-counts-requires
 judge-counts-requires c κs = search needs
 
 enum-told : tie.Need-enum-told
 enum-told c = search needs
 
--- src/lib.rt:70:9
 enum-told-2 : tie.Need-enum-told-2
 enum-told-2 c = search needs
 
--- src/lib.rt:70:9
 without-figures-requires : tie.Need-without-figures-requires
 without-figures-requires c κs = search needs
 
--- src/lib.rt:70:9
 returns : tie.Need-returns
 returns c =
     let told = c .before .enum-told2 .given .1 in
     refused-report _ _ _ _ _ (refusal-stands _ _ _ _ _ (c .before .before .before .judge-counts .ensures) told ∙ counts-first _) told (c .without-figures .ensures)
 
--- src/lib.rt:73:5
 lay-out-requires : tie.Need-lay-out-requires
 lay-out-requires c κs =
     let counts = c .before .before .before .judge-counts .ensures in
     (has-room _ (sym counts ∙ c .before .enum-told .given .1), blank-blocks)
 
--- src/lib.rt:74:22
 index-requires : tie.Need-index-requires
 index-requires c κs = search needs
 
--- src/lib.rt:74:38
 index-requires-2 : tie.Need-index-requires-2
 index-requires-2 c κs = search needs
 
--- src/lib.rt:74:5
 report-of-requires : tie.Need-report-of-requires
 report-of-requires c κs =
     let l = c .before .before .before in
@@ -59,7 +51,6 @@ report-of-requires c κs =
     let means = laid-out-means _ _ (l .lay-out .ensures) _ _ (c .before .index .ensures .0) (c .index2 .ensures .0) in
     ap countsJudged means ∙ sym counts ∙ l .before .before .enum-told .given .1
 
--- src/lib.rt:65:1
 returns-2 : tie.Need-returns-2
 returns-2 c =
     let l = c .before .before .before .before in

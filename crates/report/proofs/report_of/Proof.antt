@@ -15,42 +15,35 @@ use Rattle.rows.proofs.rows_of.Reads as rows-of-reads
 use Rattle.report.proofs.without_figures.Reads as without-figures-reads
 use Rattle.judge.proofs.judge_grid.Reads as judge-grid-reads
 
--- src/lib.rt:51:9
 judge-grid-requires : tie.Need-judge-grid-requires
 judge-grid-requires c κs = search needs
 
 enum-told : tie.Need-enum-told
 enum-told c = search needs
 
--- src/lib.rt:53:9
 enum-told-2 : tie.Need-enum-told-2
 enum-told-2 c = search needs
 
--- src/lib.rt:53:9
 without-figures-requires : tie.Need-without-figures-requires
 without-figures-requires c κs = search needs
 
--- src/lib.rt:53:9
 returns : tie.Need-returns
 returns c =
     let j = c .before .before .before in
     refused-report _ _ _ _ _ (j .judge-grid .ensures .0) (c .before .enum-told2 .given .1) (c .without-figures .ensures)
 
--- src/lib.rt:55:9
 rows-of-requires : tie.Need-rows-of-requires
 rows-of-requires c κs =
     let j = c .before .before .before in
     let told = c .before .enum-told .given .1 in
     (admitted-is-sound _ (sym (j .judge-grid .ensures .0) ∙ told), j .judge-grid .ensures .1 told)
 
--- src/lib.rt:56:9
 all-accepted-requires : tie.Need-all-accepted-requires
 all-accepted-requires c κs =
     let j = c .before .before .before .before in
     let s = j .before .before in
     few-subsystems (s .args .n) (s .args .m) (s .args .grid .now) (admitted-is-sound _ (sym (j .judge-grid .ensures .0) ∙ c .before .before .enum-told .given .1)) .0
 
--- src/lib.rt:46:1
 returns-2 : tie.Need-returns-2
 returns-2 c =
     let j = c .before .before .before .before .before in

@@ -7,11 +7,9 @@ use Rattle.report.proofs.without_figures.Reads as reads
 use Rattle.report.proofs.without_figures.Lts as lts
 use Rattle.rows.proofs.no_row.Reads as no-row-reads
 
--- src/lib.rt:41:16
 no-row-requires : tie.Need-no-row-requires
 no-row-requires c κs = search needs
 
--- src/lib.rt:35:1
 returns : tie.Need-returns
 returns c = rw (c .no-row .ensures) refl
 

@@ -1,4 +1,4 @@
--- `global::responses::largest_response` meets its contract. The loop's invariant: the worst of the jobs passed so far, where this job's
+-- `responses::largest_response` meets its contract. The loop's invariant: the worst of the jobs passed so far, where this job's
 -- budget ends, and from which job on none can be worse. Assumes nothing.
 use Prim.Native.Nat.{_+_, _*_, _-_, _≤_, _<_}
 use mathlib.Core.Logic.{⊎-elim}
@@ -30,57 +30,47 @@ Inv-loop periods costs frees holdings ceilings own n active first s cost worst�
 abbrev μ-loop : tie.MeasureT-loop
 μ-loop periods costs frees holdings ceilings own n active first s cost worst₀ reached₀ end₀ k₀ free last room plain spare until₀ worst reached end k until = n - k
 
--- src/responses.rt:297:16
 mul-cost : tie.Need-mul-cost Inv-loop μ-loop
 mul-cost c = search needs
 
--- src/responses.rt:297:16
 shared-slice-read-cost : tie.Need-shared-slice-read-cost Inv-loop μ-loop
 shared-slice-read-cost c = search needs
 
--- src/responses.rt:306:16
 sub-free : tie.Need-sub-free Inv-loop μ-loop
 sub-free c =
     let s = c .before .before .before .before .before .before .before in
     omega (arith, s .pre .0 .fits, s .pre .0 .own-cost)
 
--- src/responses.rt:307:16
 sub-last : tie.Need-sub-last Inv-loop μ-loop
 sub-last c =
     let s = c .before .before .before .before .before .before .before in
     omega (arith, some-jobs _ (s .pre .0) (s .pre .1 .0))
 
--- src/responses.rt:308:25
 mul-room : tie.Need-mul-room Inv-loop μ-loop
 mul-room c =
     let s = c .before .before .before .before .before .before .before in
     record { fits = omega (arith, room-there _ (s .pre .0) (s .pre .1 .0) (s .pre .0 .own-cost), active-within _ (s .pre .0) (s .pre .1 .0 .is-active)) }
 
--- src/responses.rt:308:16
 sub-room : tie.Need-sub-room Inv-loop μ-loop
 sub-room c =
     let s = c .before .before .before .before .before .before .before in
     room-there _ (s .pre .0) (s .pre .1 .0) (s .pre .0 .own-cost)
 
--- src/responses.rt:309:9
 is-plain-requires : tie.Need-is-plain-requires Inv-loop μ-loop
 is-plain-requires c κs = omega (arith, c .before .before .before .before .before .before .before .pre .0 .same-resources)
 
--- src/responses.rt:310:9
 spare-for-jobs-requires : tie.Need-spare-for-jobs-requires Inv-loop μ-loop
 spare-for-jobs-requires c κs =
     let s = c .before .before .before .before .before .before .before .before in
     let l = s .pre .0 .fit .loads in
     (loads-fewer _ l (omega arith), omega (arith, l .with-cost), omega (arith, l .cost-small (s .args .own .place) (omega arith)))
 
--- src/responses.rt:312:5
 loop-holds : tie.Need-loop-holds Inv-loop μ-loop
 loop-holds c =
     let s = c .before .before .before .before .before .before .before .before .before in
     let f = s .pre .1 .1 .0 in
     (some-jobs _ (s .pre .0) (s .pre .1 .0), omega (arith, some-jobs _ (s .pre .0) (s .pre .1 .0)), λ u. absurd (omega (arith, u)), worst-to-none _, record { is-end = first-is _ (s .pre .0) f; with-end = f .with-end; ends-at = f .ends-at })
 
--- src/responses.rt:314:13
 next-end-requires : tie.Need-next-end-requires Inv-loop μ-loop
 next-end-requires c κs =
     let h = c .before .before .loop in
@@ -99,7 +89,6 @@ add-sure c =
     let here = job-counted _ (s .pre .1 .0) (h .k) (omega (arith, h .inv .0)) in
     record { fits = omega (arith, h .inv .4 .is-end, end-small _ (s .pre .0) here, s .pre .0 .own-cost, s .pre .0 .fits, s .pre .0 .period-small) }
 
--- src/responses.rt:318:12
 may-be-worse-requires : tie.Need-may-be-worse-requires Inv-loop μ-loop
 may-be-worse-requires c κs =
     let h = c .before .before .before .before .before .loop in
@@ -108,33 +97,27 @@ may-be-worse-requires c κs =
     let next = job-counted _ (s .pre .1 .0) (h .k + 1) (omega (arith, c .before .before .before .before .loop-test .taken, h .inv .1)) in
     ((release-fits _ (s .pre .0) here, budget-by-its-end _ (s .pre .0) next (c .before .before .next-end .ensures .is-end)), (omega (arith, s .pre .0 .few), omega (arith, s .pre .0 .few, h .inv .4 .with-end)))
 
--- src/responses.rt:319:17
 job-response-requires : tie.Need-job-response-requires Inv-loop μ-loop
 job-response-requires c κs =
     let h = c .before .before .before .before .before .before .before .loop in
     let s = c .before .before .before .before .before .before .before .before .before .before .before .before .before .before .before .before .before in
     (s .pre .0, (job-counted _ (s .pre .1 .0) (h .k) (omega (arith, h .inv .0)), (h .inv .4 .is-end, ((h .inv .4 .ends-at, h .inv .4 .with-end), s .pre .1 .1 .1))))
 
--- src/responses.rt:320:13
 worse-requires : tie.Need-worse-requires Inv-loop μ-loop
 worse-requires c κs = search needs
 
--- src/responses.rt:321:13
 settled-from-requires : tie.Need-settled-from-requires Inv-loop μ-loop
 settled-from-requires c κs = search needs
 
--- src/responses.rt:324:9
 add-k : tie.Need-add-k Inv-loop μ-loop
 add-k c =
     let h = c .before .before .before .before .before .before .before .loop in
     let s = c .before .before .before .before .before .before .before .before .before .before .before .before .before .before .before .before .before in
     record { fits = omega (arith, job-small _ (s .pre .0) (job-counted _ (s .pre .1 .0) (h .k) (omega (arith, h .inv .0)))) }
 
--- src/responses.rt:312:5
 loop-less : tie.Need-loop-less Inv-loop μ-loop
 loop-less c = search needs
 
--- src/responses.rt:312:5
 loop-again : tie.Need-loop-again Inv-loop μ-loop
 loop-again c =
     let w = c .before .before .before .before in
@@ -152,25 +135,21 @@ loop-again c =
       w .next-end .ensures,
     )
 
--- src/responses.rt:327:9
 returns : tie.Need-returns Inv-loop μ-loop
 returns c =
     let h = c .before .before .loop in
     let s = c .before .before .before .before .before .before .before .before .before .before .before .before in
     settled-from _ (s .pre .0) (s .pre .1 .0) (s .pre .0 .own-cost) (h .until) (h .k) (h .worst) (h .inv .2 (omega (arith, c .if2 .taken))) (c .before .loop-test .left) (omega (arith, h .inv .0)) (h .inv .3)
 
--- src/responses.rt:329:9
 job-response-requires-2 : tie.Need-job-response-requires-2 Inv-loop μ-loop
 job-response-requires-2 c κs =
     let h = c .before .before .loop in
     let s = c .before .before .before .before .before .before .before .before .before .before .before .before in
     (s .pre .0, (job-counted _ (s .pre .1 .0) (h .k) (omega (arith, h .inv .0)), (h .inv .4 .is-end, ((h .inv .4 .ends-at, h .inv .4 .with-end), s .pre .1 .1 .1))))
 
--- src/responses.rt:330:5
 worse-requires-2 : tie.Need-worse-requires-2 Inv-loop μ-loop
 worse-requires-2 c κs = search needs
 
--- src/responses.rt:278:1
 returns-2 : tie.Need-returns-2 Inv-loop μ-loop
 returns-2 c =
     let h = c .before .before .before .before .loop in

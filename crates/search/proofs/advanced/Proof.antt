@@ -1,4 +1,4 @@
--- `least::after::advanced` meets its contract. The loop's invariant: the loads so far have asked on until `start`. Assumes nothing.
+-- `search::advanced` meets its contract. The loop's invariant: the loads so far have asked on until `start`. Assumes nothing.
 use Prim.Native.Nat.{ℕ, _+_, _-_, _*_, _^_, _≤_, _<_}
 use mathlib.Core.Path.{_≡_, ap}
 use mathlib.Core.Logic.{⊎-elim}
@@ -62,103 +62,79 @@ module _ (c : tie.In-loop Inv-loop μ-loop) where
   sums-fit times e =
       sum-small _ _ _ _ _ _ (entry .pre .0 .0) (entry .pre .0 .1) (entry .pre .1 .0) (entry .pre .1 .1) (here + 1) (turn-within here _ (c .loop-test .taken)) _ _ (next times e)
 
--- src/after.rt:79:5
 loop-holds : tie.Need-loop-holds Inv-loop μ-loop
 loop-holds c = (search needs, advances-from _ _ _ _ _)
 
--- src/after.rt:80:12
 mul-if1 : tie.Need-mul-if1 Inv-loop μ-loop
 mul-if1 c = search needs
 
--- src/after.rt:80:12
 element-copy-out-if1 : tie.Need-element-copy-out-if1 Inv-loop μ-loop
 element-copy-out-if1 c = search needs
 
--- src/after.rt:81:42
 mul-round-up : tie.Need-mul-round-up Inv-loop μ-loop
 mul-round-up c = search needs
 
--- src/after.rt:81:42
 element-copy-out-round-up : tie.Need-element-copy-out-round-up Inv-loop μ-loop
 element-copy-out-round-up c = search needs
 
--- src/after.rt:81:34
 sub-round-up : tie.Need-sub-round-up Inv-loop μ-loop
 sub-round-up c = search needs
 
--- src/after.rt:81:51
 mul-round-up-2 : tie.Need-mul-round-up-2 Inv-loop μ-loop
 mul-round-up-2 c = search needs
 
--- src/after.rt:81:51
 shared-slice-read-round-up : tie.Need-shared-slice-read-round-up Inv-loop μ-loop
 shared-slice-read-round-up c = search needs
 
--- src/after.rt:81:17
 round-up-requires : tie.Need-round-up-requires Inv-loop μ-loop
 round-up-requires c κs =
     let i = c .before .before .before .before in
     (omega (arith, c .before .before .if1 .taken), entry i .pre .0 .0 .loads .period-pos _ (i .loop-test .taken))
 
--- src/after.rt:82:32
 mul-ends : tie.Need-mul-ends Inv-loop μ-loop
 mul-ends c = search needs
 
--- src/after.rt:82:32
 shared-slice-read-ends : tie.Need-shared-slice-read-ends Inv-loop μ-loop
 shared-slice-read-ends c = search needs
 
--- src/after.rt:82:24
 mul-ends-2 : tie.Need-mul-ends-2 Inv-loop μ-loop
 mul-ends-2 c = record { fits = omega (arith, ap (λ (k : ℕ). k * period (c .before .before .before .before .before .before)) (c .before .round-up .ensures), ends-fit (c .before .before .before .before .before .before)) }
 
--- src/after.rt:82:13
 mul-ends-3 : tie.Need-mul-ends-3 Inv-loop μ-loop
 mul-ends-3 c = search needs
 
--- src/after.rt:82:13
 element-copy-out-ends : tie.Need-element-copy-out-ends Inv-loop μ-loop
 element-copy-out-ends c = search needs
 
--- src/after.rt:82:13
 add-ends : tie.Need-add-ends Inv-loop μ-loop
 add-ends c = record { fits = omega (arith, ap (λ (k : ℕ). k * period (c .before .before .before .before .before .before .before)) (c .before .before .round-up .ensures), ends-fit (c .before .before .before .before .before .before .before), c .before .before .before .before .before .if1 .taken, entry (c .before .before .before .before .before .before .before) .pre .1 .1) }
 
--- src/after.rt:82:13
 element-write-ends : tie.Need-element-write-ends Inv-loop μ-loop
 element-write-ends c = search needs
 
--- src/after.rt:83:28
 mul-sum : tie.Need-mul-sum Inv-loop μ-loop
 mul-sum c = search needs
 
--- src/after.rt:83:28
 shared-slice-read-sum : tie.Need-shared-slice-read-sum Inv-loop μ-loop
 shared-slice-read-sum c = search needs
 
--- src/after.rt:83:20
 mul-sum-2 : tie.Need-mul-sum-2 Inv-loop μ-loop
 mul-sum-2 c = record { fits = omega (arith, sums-fit (c .before .before .before .before .before .before .before .before) _ (c .before .before .before .round-up .ensures)) }
 
--- src/after.rt:83:13
 add-sum : tie.Need-add-sum Inv-loop μ-loop
 add-sum c = record { fits = omega (arith, sums-fit (c .before .before .before .before .before .before .before .before) _ (c .before .before .before .round-up .ensures)) }
 
--- src/after.rt:85:9
 add-t : tie.Need-add-t Inv-loop μ-loop
 add-t c = search needs
 
--- src/after.rt:79:5
 loop-less : tie.Need-loop-less Inv-loop μ-loop
 loop-less c = turn-less _ _ (c .before .before .loop-test .taken)
 
--- src/after.rt:79:5
 loop-again : tie.Need-loop-again Inv-loop μ-loop
 loop-again c =
     let i = c .before .before in
     (turn-within _ _ (i .loop-test .taken), ⊎-elim (λ w. rw (w .7, w .8) (next i _ (w .3 .ensures))) (λ w. rw (w .1, w .2) (stays _ _ _ _ _ _ _ _ (i .before .loop .inv .1) (entry i .pre .0 .0 .loads .period-pos _ (i .loop-test .taken)) (w .0 .left))) (c .if1 .came))
 
--- src/after.rt:65:1
 returns : tie.Need-returns Inv-loop μ-loop
 returns c =
     let h = c .before .loop in

@@ -1,4 +1,4 @@
--- `least::after::ask` meets its contract: once is enough, or it never is, or it takes as often as the free ticks say.
+-- `search::ask` meets its contract: once is enough, or it never is, or it takes as often as the free ticks say.
 -- Assumes nothing.
 use native.Mathlib.Omega.{arith}
 use borrow.Author.Needs.{needs}
@@ -67,147 +67,111 @@ module _ (c : tie.Else3) where
   end-is : c .before .before .before .before .before .round-up .result * period Before ≡ times Before * period Before
   end-is = ap (λ (q : ℕ). q * period Before) (times-are Before)
 
--- src/after.rt:33:15
 mul-end : tie.Need-mul-end
 mul-end c = search needs
 
--- src/after.rt:33:15
 element-copy-out-end : tie.Need-element-copy-out-end
 element-copy-out-end c = search needs
 
--- src/after.rt:34:18
 sub-behind : tie.Need-sub-behind
 sub-behind c = search needs
 
--- src/after.rt:35:18
 mul-if1 : tie.Need-mul-if1
 mul-if1 c = search needs
 
--- src/after.rt:35:18
 shared-slice-read-if1 : tie.Need-shared-slice-read-if1
 shared-slice-read-if1 c = search needs
 
--- src/after.rt:36:25
 mul-ends : tie.Need-mul-ends
 mul-ends c = search needs
 
--- src/after.rt:36:25
 shared-slice-read-ends : tie.Need-shared-slice-read-ends
 shared-slice-read-ends c = search needs
 
--- src/after.rt:36:19
 add-ends : tie.Need-add-ends
 add-ends c = search needs
 
--- src/after.rt:36:9
 mul-ends-2 : tie.Need-mul-ends-2
 mul-ends-2 c = search needs
 
--- src/after.rt:36:9
 element-write-ends : tie.Need-element-write-ends
 element-write-ends c = search needs
 
--- src/after.rt:37:20
 mul-result : tie.Need-mul-result
 mul-result c = search needs
 
--- src/after.rt:37:20
 shared-slice-read-result : tie.Need-shared-slice-read-result
 shared-slice-read-result c = search needs
 
--- src/after.rt:37:16
 add-result : tie.Need-add-result
 add-result c = search needs
 
--- src/after.rt:37:9
 returns : tie.Need-returns
 returns c = once _ _ _ _ _ _ _ (c .before .before .before .before .before .before .before .before .pre .1) (omega (arith, c .before .before .if1 .taken))
 
--- src/after.rt:39:8
 mul-if2 : tie.Need-mul-if2
 mul-if2 c = search needs
 
--- src/after.rt:39:8
 shared-slice-read-if2 : tie.Need-shared-slice-read-if2
 shared-slice-read-if2 c = search needs
 
--- src/after.rt:40:9
 returns-2 : tie.Need-returns-2
 returns-2 c = never _ _ _ _ _ _ _ (c .before .before .before .before .before .before .before .before .pre .1) (c .if2 .taken)
 
--- src/after.rt:42:34
 mul-round-up : tie.Need-mul-round-up
 mul-round-up c = search needs
 
--- src/after.rt:42:34
 shared-slice-read-round-up : tie.Need-shared-slice-read-round-up
 shared-slice-read-round-up c = search needs
 
--- src/after.rt:42:9
 round-up-requires : tie.Need-round-up-requires
 round-up-requires c κs = search needs
 
--- src/after.rt:43:19
 wide-requires : tie.Need-wide-requires
 wide-requires c κs = search needs
 
--- src/after.rt:43:29
 wide-requires-2 : tie.Need-wide-requires-2
 wide-requires-2 c κs = search needs
 
--- src/after.rt:43:48
 mul-wide : tie.Need-mul-wide
 mul-wide c = search needs
 
--- src/after.rt:43:48
 shared-slice-read-wide : tie.Need-shared-slice-read-wide
 shared-slice-read-wide c = search needs
 
--- src/after.rt:43:43
 wide-requires-3 : tie.Need-wide-requires-3
 wide-requires-3 c κs = search needs
 
--- src/after.rt:43:29
 mul-reached : tie.Need-mul-reached
 mul-reached c = record { fits = omega (arith, costs-are c, costs-fit c) }
 
--- src/after.rt:43:19
 add-reached : tie.Need-add-reached
 add-reached c = record { fits = omega (arith, costs-are c, costs-fit c, c .before .before .before .wide .ensures .1) }
 
--- src/after.rt:45:9
 returns-3 : tie.Need-returns-3
 returns-3 c = out-of-bound _ _ _ _ _ _ _ (Entry (c .before) .pre .1) (some (c .before)) (omega (arith, c .if3 .taken, reached-is (c .before)))
 
--- src/after.rt:47:29
 mul-ends-3 : tie.Need-mul-ends-3
 mul-ends-3 c = search needs
 
--- src/after.rt:47:29
 shared-slice-read-ends-2 : tie.Need-shared-slice-read-ends-2
 shared-slice-read-ends-2 c = search needs
 
--- src/after.rt:47:21
 mul-ends-4 : tie.Need-mul-ends-4
 mul-ends-4 c = record { fits = omega (arith, end-is (c .before), ends-fit (c .before)) }
 
--- src/after.rt:47:15
 add-ends-2 : tie.Need-add-ends-2
 add-ends-2 c = record { fits = omega (arith, end-is (c .before), ends-fit (c .before)) }
 
--- src/after.rt:47:5
 mul-ends-5 : tie.Need-mul-ends-5
 mul-ends-5 c = search needs
 
--- src/after.rt:47:5
 element-write-ends-2 : tie.Need-element-write-ends-2
 element-write-ends-2 c = search needs
 
--- src/after.rt:48:5
 cast-result : tie.Need-cast-result
 cast-result c = omega (arith, reached-is (Before (c .before)), reachable (c .before))
 
--- src/after.rt:20:1
 returns-4 : tie.Need-returns-4
 returns-4 c = rw (times-are (Before (c .before)), reached-is (Before (c .before))) (as-often _ _ _ _ _ _ _ (Entry (Before (c .before)) .pre .1) (some (Before (c .before))) (within (c .before)))
 

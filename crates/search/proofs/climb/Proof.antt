@@ -1,4 +1,4 @@
--- `least::after::climb` meets its contract. The invariant: x is what there is to do once the loads have asked as often as `ends` says,
+-- `search::climb` meets its contract. The invariant: x is what there is to do once the loads have asked as often as `ends` says,
 -- and the loads passed since one has asked are ahead of it (`Round`). Assumes nothing.
 use Prim.Native.Nat.{ℕ, _+_, _^_, _≤_, _<_}
 use mathlib.Core.Path.{_≡_, refl, _∙_}
@@ -113,22 +113,18 @@ stepped c =
     ))
     (c .if6 .came)
 
--- src/after.rt:111:17
 add-x : tie.Need-add-x Inv-loop μ-loop
 add-x c = search needs
 
--- src/after.rt:113:9
 advanced-requires : tie.Need-advanced-requires Inv-loop μ-loop
 advanced-requires c κs =
     let s = c .before .before .before .before .before in
     let e = s .pre .0 in
     ((e .waits .fit, e .waits .few, e .with-end), (omega (arith, c .before .if1 .taken, e .starts .within), e .starts .within))
 
--- src/after.rt:114:20
 wide-requires : tie.Need-wide-requires Inv-loop μ-loop
 wide-requires c κs = search needs
 
--- src/after.rt:115:13
 returns : tie.Need-returns Inv-loop μ-loop
 returns c =
     let a = c .before .before in
@@ -136,17 +132,14 @@ returns c =
     let e = s .pre .0 in
     (too-far _ _ _ _ _ _ (e .waits .fit) (climbs-start _ _ _ _ _ _ _ _ e (a .advanced .ensures) (a .before .before .if1 .taken)) _ (omega (arith, c .if2 .taken, c .before .wide .ensures .0)), a .advanced .ensures .same-length)
 
--- src/after.rt:119:9
 returns-2 : tie.Need-returns-2 Inv-loop μ-loop
 returns-2 c =
     let e = c .before .before .before .before .before .pre .0 in
     (settled _ _ _ _ _ _ (e .waits .fit) (begun (c .before) .0) (total-starts _ _ _ _ _ _ _ _ e) (λ t a b. absurd (omega (arith, c .if3 .taken))) _, begun (c .before) .2)
 
--- src/after.rt:124:5
 loop-holds : tie.Need-loop-holds Inv-loop μ-loop
 loop-holds c = (omega (arith, c .if3 .left), refl, begun (c .before) .0, begun (c .before) .1, round-begins _ _ _)
 
--- src/after.rt:127:17
 returns-3 : tie.Need-returns-3 Inv-loop μ-loop
 returns-3 c =
     let l = c .before .before in
@@ -154,27 +147,22 @@ returns-3 c =
     let e = entry l .pre .0 in
     (settled _ _ _ _ _ _ (e .waits .fit) (i .2) (total-starts _ _ _ _ _ _ _ _ e) (comes-back _ _ _ _ _ _ (i .4) (c .before .if4 .taken) (c .if5 .taken)) _, all-ends l)
 
--- src/after.rt:124:5
 loop-less : tie.Need-loop-less Inv-loop μ-loop
 loop-less c =
     let l = c .before .before in
     less-by-going-round _ _ _ _ _ (entry l .pre .0 .waits .few) (omega (arith, l .loop .inv .0)) (c .before .if4 .taken) (c .if5 .left)
 
--- src/after.rt:124:5
 loop-again : tie.Need-loop-again Inv-loop μ-loop
 loop-again c =
     let i = c .before .before .loop .inv in
     (i .0, i .1, i .2, i .3, goes-round _ _ _ _ _ _ (i .0) (i .4) (c .before .if4 .taken) (c .if5 .left))
 
--- src/after.rt:132:16
 mul-if6 : tie.Need-mul-if6 Inv-loop μ-loop
 mul-if6 c = record { fits = omega (arith, in-slots c) }
 
--- src/after.rt:132:16
 element-copy-out-if6 : tie.Need-element-copy-out-if6 Inv-loop μ-loop
 element-copy-out-if6 c = in-slots c
 
--- src/after.rt:133:17
 ask-requires : tie.Need-ask-requires Inv-loop μ-loop
 ask-requires c κs =
     let p = c .before .before .before in
@@ -182,11 +170,9 @@ ask-requires c κs =
     let i = at p .loop .inv in
     ((in-slots p, omega (arith, one-of p, e .waits .fit .loads .with-period), omega (arith, one-of p, e .waits .fit .loads .with-cost), omega (arith, one-of p, e .free .with-free), room p), falls-behind _ _ _ _ _ _ (e .waits .fit) (i .2) _ (one-of p) _ (e .free) (c .before .if6 .taken) (i .3) (total-starts _ _ _ _ _ _ _ _ e) (entry (at p) .pre .1))
 
--- src/after.rt:134:28
 wide-requires-2 : tie.Need-wide-requires-2 Inv-loop μ-loop
 wide-requires-2 c κs = search needs
 
--- src/after.rt:135:21
 returns-4 : tie.Need-returns-4 Inv-loop μ-loop
 returns-4 c =
     let k = c .before .before in
@@ -194,15 +180,12 @@ returns-4 c =
     let l = at p in
     (no-solution _ _ _ _ _ _ (entry l .pre .0 .waits .fit) (l .loop .inv .2) _ (one-of p) _ _ _ (k .ask .ensures) (omega (arith, c .if7 .taken, c .before .wide2 .ensures .0)), k .ask .ensures .same-length ∙ all-ends l)
 
--- src/after.rt:140:13
 add-t : tie.Need-add-t Inv-loop μ-loop
 add-t c = record { fits = omega (arith, in-slots (c .before .before)) }
 
--- src/after.rt:124:5
 loop-less-2 : tie.Need-loop-less-2 Inv-loop μ-loop
 loop-less-2 c = stepped c .5
 
--- src/after.rt:124:5
 loop-again-2 : tie.Need-loop-again-2 Inv-loop μ-loop
 loop-again-2 c =
     let g = stepped c in

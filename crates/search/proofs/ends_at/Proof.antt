@@ -1,4 +1,4 @@
--- `least::after::ends_at` meets its contract. The loop's invariant: the ends so far are filled in. Assumes nothing.
+-- `search::ends_at` meets its contract. The loop's invariant: the ends so far are filled in. Assumes nothing.
 use Prim.Native.Nat.{ℕ, _*_, _-_, _≤_, _<_, _^_}
 use mathlib.Core.Path.{_≡_, refl, ap, _∙_}
 use mathlib.Core.List.{List}
@@ -41,55 +41,43 @@ module _ (c : tie.After-round-up Inv-loop μ-loop) where
       let u = c .before .before .loop-test .taken in
       omega (arith, up-is-tight (entry .args .y) (getD (entry .args .periods .now) here 0) (f .period-pos here u), f .period-small here u, entry .pre .1 .1)
 
--- src/after.rt:56:5
 loop-holds : tie.Need-loop-holds Inv-loop μ-loop
 loop-holds c = (search needs, refl, filled-none 0 _ 0 _)
 
--- src/after.rt:57:31
 mul-round-up : tie.Need-mul-round-up Inv-loop μ-loop
 mul-round-up c = search needs
 
--- src/after.rt:57:31
 shared-slice-read-round-up : tie.Need-shared-slice-read-round-up Inv-loop μ-loop
 shared-slice-read-round-up c = search needs
 
--- src/after.rt:57:19
 round-up-requires : tie.Need-round-up-requires Inv-loop μ-loop
 round-up-requires c κs =
     let s = c .before .before .before .before in
     (s .pre .1 .0, s .pre .0 .0 .period-pos _ (c .before .loop-test .taken))
 
--- src/after.rt:57:45
 mul-ends : tie.Need-mul-ends Inv-loop μ-loop
 mul-ends c = search needs
 
--- src/after.rt:57:45
 shared-slice-read-ends : tie.Need-shared-slice-read-ends Inv-loop μ-loop
 shared-slice-read-ends c = search needs
 
--- src/after.rt:57:19
 mul-ends-2 : tie.Need-mul-ends-2 Inv-loop μ-loop
 mul-ends-2 c = record { fits = omega (arith, end-is (c .before), end-small (c .before)) }
 
--- src/after.rt:57:9
 mul-ends-3 : tie.Need-mul-ends-3 Inv-loop μ-loop
 mul-ends-3 c = search needs
 
--- src/after.rt:57:9
 element-write-ends : tie.Need-element-write-ends Inv-loop μ-loop
 element-write-ends c =
     let i = c .before .before .before in
     omega (arith, i .loop-test .taken, i .before .before .before .pre .0 .1)
 
--- src/after.rt:58:9
 add-t : tie.Need-add-t Inv-loop μ-loop
 add-t c = search needs
 
--- src/after.rt:56:5
 loop-less : tie.Need-loop-less Inv-loop μ-loop
 loop-less c = search needs
 
--- src/after.rt:56:5
 loop-again : tie.Need-loop-again Inv-loop μ-loop
 loop-again c =
     let i = c .before .before .before in
@@ -97,7 +85,6 @@ loop-again c =
     let s = i .before .before .before in
     (omega (arith, i .loop-test .taken), length-set (h .ends) (h .t) _ ∙ h .inv .1, filled-more 0 _ 0 (h .ends) (h .t) (h .t) _ (omega arith) (omega (arith, i .loop-test .taken, s .pre .0 .2, h .inv .1)) (h .inv .2) (end-is (c .before)))
 
--- src/after.rt:50:1
 returns : tie.Need-returns Inv-loop μ-loop
 returns c =
     let h = c .before .loop in

@@ -1,4 +1,4 @@
--- `least::after::least_after` meets its contract: its bound is within reach. Assumes nothing.
+-- `search::least_after` meets its contract: its bound is within reach. Assumes nothing.
 use mathlib.Core.Logic.{inl}
 use native.Mathlib.Omega.{arith}
 use borrow.Author.Needs.{needs}
@@ -9,15 +9,12 @@ use Rattle.search.proofs.least_after.Lts as lts
 use Rattle.search.proofs.climb.Reads as climb-reads
 use Rattle.numbers.proofs.wide.Reads as wide-reads
 
--- src/after.rt:162:59
 wide-requires : tie.Need-wide-requires
 wide-requires c κs = search needs
 
--- src/after.rt:162:5
 climb-requires : tie.Need-climb-requires
 climb-requires c κs = (c .before .before .before .before .before .pre .0, inl (omega (arith, c .wide .ensures .0, c .before .before .before .before .before .pre .1)))
 
--- src/after.rt:146:1
 returns : tie.Need-returns
 returns c = rw (c .before .wide .ensures .0) at (c .climb .ensures)
 

@@ -1,4 +1,4 @@
--- `least::after::least_within` meets its contract: a solution lies within reach, so the search finds the least. Assumes nothing.
+-- `search::least_within` meets its contract: a solution lies within reach, so the search finds the least. Assumes nothing.
 use mathlib.Core.Logic.{inr}
 use Rattle.search.proofs.ClimbLaws.{within-bound}
 use borrow.Author.Needs.{needs}
@@ -9,11 +9,9 @@ use Rattle.search.proofs.least_within.Reads as reads
 use Rattle.search.proofs.least_within.Lts as lts
 use Rattle.search.proofs.climb.Reads as climb-reads
 
--- src/after.rt:181:5
 climb-requires : tie.Need-climb-requires
 climb-requires c κs = (c .before .before .before .before .pre .0, inr (c .before .before .before .before .pre .1))
 
--- src/after.rt:166:1
 returns : tie.Need-returns
 returns c =
     let s = c .before .before .before .before .before in

@@ -7,15 +7,12 @@ use Rattle.text.proofs.check_text.Reads as reads
 use Rattle.text.proofs.check_text.Lts as lts
 use Rattle.text.proofs.check_text_in.Reads as check-text-in-reads
 
--- src/lib.rt:139:5
 check-text-in-requires : tie.Need-check-text-in-requires
 check-text-in-requires c κs = blank-blocks
 
--- src/lib.rt:135:1
 same-length : tie.Need-same-length
 same-length c = search needs
 
--- src/lib.rt:135:1
 returns : tie.Need-returns
 returns c = c .before .before .check-text-in .ensures .0
 

@@ -8,21 +8,17 @@ use Rattle.text.proofs.check_text_in.Reads as reads
 use Rattle.text.proofs.check_text_in.Lts as lts
 use Rattle.text.proofs.put_text.Reads as put-text-reads
 
--- src/lib.rt:127:9
 returns : tie.Need-returns
 returns c =
     let s = c .before .before .before in
     (nothing-printed (s .args .file .now) (s .args .buf .now) (omega arith), s .pre)
 
--- src/lib.rt:129:19
 put-text-requires : tie.Need-put-text-requires
 put-text-requires c κs = search needs
 
--- src/lib.rt:117:1
 same-length : tie.Need-same-length
 same-length c = search needs
 
--- src/lib.rt:117:1
 returns-2 : tie.Need-returns-2
 returns-2 c =
     let p = c .before .before in

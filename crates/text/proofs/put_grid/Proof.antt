@@ -9,22 +9,18 @@ use Rattle.text.proofs.put_grid.Lts as lts
 use Rattle.report.proofs.report_of.Reads as report-of-reads
 use Rattle.text.proofs.put_report.Reads as put-report-reads
 
--- src/lib.rt:96:9
 report-of-requires : tie.Need-report-of-requires
 report-of-requires c κs = search needs
 
--- src/lib.rt:97:5
 put-report-requires : tie.Need-put-report-requires
 put-report-requires c κs =
     let r = c .before in
     let s = r .before .before in
     (count-if-admitted (s .args .n) (s .args .m) (s .args .grid .now) _ (r .report-of .ensures), s .pre .1)
 
--- src/lib.rt:86:1
 same-length : tie.Need-same-length
 same-length c = search needs
 
--- src/lib.rt:86:1
 returns : tie.Need-returns
 returns c =
     let r = c .before .before .before .before in

@@ -1,3 +1,4 @@
+-- `text::put_report` meets its contract. Assumes nothing.
 use native.Mathlib.Omega.{arith}
 use Prim.Native.Nat.{_*_}
 use borrow.Author.Needs.{needs}
@@ -18,19 +19,15 @@ use Rattle.text.proofs.refused.put_refused_table.Reads as put-refused-t
 behind-verdict : (c : tie.After-put-verdict) → Run (c .before .before .before .before .before .args .buf .now) 0 9 (verdict (c .before .before .before .before .before .args .report .accepted)) (c .put-verdict .last .0) (c .put-verdict .result)
 behind-verdict c = record { writes = c .put-verdict .ensures; small = verdict-most (c .before .before .before .before .before .args .report .accepted) }
 
--- src/lib.rt:63:28
 enum-known-judged : tie.Need-enum-known-judged
 enum-known-judged c = search needs
 
--- src/lib.rt:64:9
 put-refused-table-requires : tie.Need-put-refused-table-requires
 put-refused-table-requires c κs = search needs
 
--- src/lib.rt:64:9
 same-length : tie.Need-same-length
 same-length c = search needs
 
--- src/lib.rt:64:9
 returns : tie.Need-returns
 returns c =
     let a = c .before .before .before .before .before .before .before .before .args in
@@ -39,20 +36,16 @@ returns c =
 enum-told : tie.Need-enum-told
 enum-told c = search needs
 
--- src/lib.rt:66:9
 put-verdict-requires : tie.Need-put-verdict-requires
 put-verdict-requires c κs = search needs
 
--- src/lib.rt:68:5
 put-rows-requires : tie.Need-put-rows-requires
 put-rows-requires c κs =
     (c .before .before .before .before .before .before .before .before .before .pre .0 (c .before .before .before .before .before .before .enum-told .given .1), omega (arith, run-room (most * lineMost) (omega (arith, c .before .before .before .before .before .before .before .before .before .pre .1)) (behind-verdict (c .before .before .before .before))))
 
--- src/lib.rt:58:1
 same-length-2 : tie.Need-same-length-2
 same-length-2 c = search needs
 
--- src/lib.rt:58:1
 returns-2 : tie.Need-returns-2
 returns-2 c =
     let a = c .before .before .before .before .before .before .before .before .before .before .before .before in

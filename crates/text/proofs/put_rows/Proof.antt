@@ -1,3 +1,4 @@
+-- `text::put_rows` meets its contract. Assumes nothing.
 use Prim.Native.Nat.{_-_, _≤_}
 use borrow.Author.Needs.{needs}
 use Rattle.lists.proofs.Turn.{turn-within, turn-less}
@@ -15,48 +16,39 @@ Inv-loop buf₀ at n rows next₀ s₀ buf next s = (s ≤ n) × RowsTo rows buf
 abbrev μ-loop : tie.MeasureT-loop
 μ-loop buf₀ at n rows next₀ s₀ buf next s = n - s
 
--- src/lib.rt:49:5
 loop-holds : tie.Need-loop-holds Inv-loop μ-loop
 loop-holds c = (search needs, rows-begin _ _ _)
 
--- src/lib.rt:50:19
 mul-row : tie.Need-mul-row Inv-loop μ-loop
 mul-row c = search needs
 
--- src/lib.rt:50:19
 array-copy-out-row : tie.Need-array-copy-out-row Inv-loop μ-loop
 array-copy-out-row c = search needs
 
--- src/lib.rt:51:9
 put-row-requires : tie.Need-put-row-requires Inv-loop μ-loop
 put-row-requires c κs =
     let a = c .before .before .before .before .before in
     let l = c .before .before .before .loop in
     (omega arith, room-for-row (a .args .t3) (a .args .buf .now) (a .args .at) (l .s) (l .next) (l .buf) (a .pre .1) (omega arith) (l .inv .1))
 
--- src/lib.rt:52:9
 add-s : tie.Need-add-s Inv-loop μ-loop
 add-s c = search needs
 
--- src/lib.rt:49:5
 loop-less : tie.Need-loop-less Inv-loop μ-loop
 loop-less c = turn-less _ _ (c .before .before .before .before .before .loop-test .taken)
 
--- src/lib.rt:49:5
 loop-again : tie.Need-loop-again Inv-loop μ-loop
 loop-again c =
     let a = c .before .before .before .before .before .before .before .before in
     let l = c .before .before .before .before .before .before .loop in
     (turn-within _ _ (c .before .before .before .before .before .loop-test .taken), rows-go-on (a .args .t3) (a .args .buf .now) (a .args .at) (l .s) (l .next) (l .buf) (a .pre .1) (omega arith) (l .inv .1) _ _ (c .before .before .put-row .ensures))
 
--- src/lib.rt:43:1
 same-length : tie.Need-same-length Inv-loop μ-loop
 same-length c =
     let a = c .before .before .before in
     let l = c .before .loop in
     rows-length (a .args .t3) (a .args .buf .now) (a .args .at) (l .s) (l .next) (l .buf) (a .pre .1) (omega arith) (l .inv .1)
 
--- src/lib.rt:43:1
 returns : tie.Need-returns Inv-loop μ-loop
 returns c =
     let a = c .before .before .before in

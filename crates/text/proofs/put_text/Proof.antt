@@ -15,32 +15,26 @@ use Rattle.reader.proofs.read_grid.Reads as read-grid-reads
 use Rattle.text.proofs.put_grid.Reads as put-grid-reads
 use Rattle.text.proofs.refused.put_refused_file.Reads as put-refused-file-reads
 
--- src/lib.rt:107:9
 read-grid-requires : tie.Need-read-grid-requires
 read-grid-requires c κs = search needs
 
 enum-told : tie.Need-enum-told
 enum-told c = search needs
 
--- src/lib.rt:110:33
 enum-told-2 : tie.Need-enum-told-2
 enum-told-2 c = search needs
 
--- src/lib.rt:110:41
 file-refusal-requires : tie.Need-file-refusal-requires
 file-refusal-requires c κs = search needs
 
--- src/lib.rt:110:9
 put-refused-file-requires : tie.Need-put-refused-file-requires
 put-refused-file-requires c κs =
     let r = c .before .before .before .before in
     (offset-fits (r .before .before .before .before .args .file .now) _ _ (r .read-grid .ensures .answer-is) (c .file-refusal .ensures), omega arith)
 
--- src/lib.rt:110:9
 same-length : tie.Need-same-length
 same-length c = search needs
 
--- src/lib.rt:110:9
 returns : tie.Need-returns
 returns c =
     let r = c .before .before .before .before .before .before .before in (
@@ -48,25 +42,20 @@ returns c =
       r .read-grid .ensures .blocks,
     )
 
--- src/lib.rt:112:25
 index-requires : tie.Need-index-requires
 index-requires c κs = search needs
 
--- src/lib.rt:112:44
 index-requires-2 : tie.Need-index-requires-2
 index-requires-2 c κs = search needs
 
--- src/lib.rt:112:5
 put-grid-requires : tie.Need-put-grid-requires
 put-grid-requires c κs =
     let r = c .before .before .before .before .before .before in
     (grid-counts-pass _ _ _ (r .read-grid .ensures) (c .before .before .before .before .enum-told .given .1) _ _ (c .before .index .ensures .0) (c .index2 .ensures .0), search needs)
 
--- src/lib.rt:101:1
 same-length-2 : tie.Need-same-length-2
 same-length-2 c = search needs
 
--- src/lib.rt:101:1
 returns-2 : tie.Need-returns-2
 returns-2 c =
     let r = c .before .before .before .before .before .before .before .before .before in

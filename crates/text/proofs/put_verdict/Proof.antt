@@ -1,3 +1,4 @@
+-- `text::put_verdict` meets its contract. Assumes nothing.
 use mathlib.Core.Path.{sym, ap}
 use borrow.Author.Needs.{needs}
 use Rattle.lines.specs.Words.{word}
@@ -9,36 +10,28 @@ use Rattle.text.proofs.put_verdict.Reads as reads
 use Rattle.text.proofs.put_verdict.Lts as lts
 use Rattle.lines.proofs.put_bytes.Reads as put-bytes-reads
 
--- src/lib.rt:34:27
 slice-aggregate-put-bytes : tie.Need-slice-aggregate-put-bytes
 slice-aggregate-put-bytes c = search needs
 
--- src/lib.rt:34:9
 put-bytes-requires : tie.Need-put-bytes-requires
 put-bytes-requires c κs = search needs
 
--- src/lib.rt:36:27
 slice-aggregate-put-bytes-2 : tie.Need-slice-aggregate-put-bytes-2
 slice-aggregate-put-bytes-2 c = search needs
 
--- src/lib.rt:36:9
 put-bytes-requires-2 : tie.Need-put-bytes-requires-2
 put-bytes-requires-2 c κs = search needs
 
--- src/lib.rt:29:1
 same-length : tie.Need-same-length
 same-length c = search needs
 
--- src/lib.rt:29:1
 returns : tie.Need-returns
 unfolding word
 returns c = wrote-same (sym (ap verdict (c .before .before .before .before .before .if1 .taken))) (wrote (c .before .before .put-bytes .ensures))
 
--- src/lib.rt:29:1
 same-length-2 : tie.Need-same-length-2
 same-length-2 c = search needs
 
--- src/lib.rt:29:1
 returns-2 : tie.Need-returns-2
 unfolding word
 returns-2 c = wrote-same (sym (ap verdict (c .before .before .before .before .before .if1 .left))) (wrote (c .before .before .put-bytes2 .ensures))

@@ -21,67 +21,53 @@ use Rattle.rows.proofs.no_row.Reads as no-row-reads
 use Rattle.stored.proofs.file_refusal.Reads as file-refusal-reads
 use Rattle.reader.proofs.read_grid.Reads as read-grid-reads
 
--- src/figures.rt:155:9
 read-grid-requires : tie.Need-read-grid-requires
 read-grid-requires c κs = blank-blocks
 
 enum-told : tie.Need-enum-told
 enum-told c = search needs
 
--- src/figures.rt:158:32
 enum-told-2 : tie.Need-enum-told-2
 enum-told-2 c = search needs
 
--- src/figures.rt:158:32
 file-refusal-requires : tie.Need-file-refusal-requires
 file-refusal-requires c κs = search needs
 
--- src/figures.rt:158:13
 file-judgement-requires : tie.Need-file-judgement-requires
 file-judgement-requires c κs = offset-fits _ _ _ (c .before .before .before .read-grid .ensures .answer-is) (c .file-refusal .ensures)
 
--- src/figures.rt:159:48
 no-row-requires : tie.Need-no-row-requires
 no-row-requires c κs = search needs
 
--- src/figures.rt:159:9
 put-figures-requires : tie.Need-put-figures-requires
 put-figures-requires c κs = search needs
 
--- src/figures.rt:159:9
 same-length : tie.Need-same-length
 same-length c = search needs
 
--- src/figures.rt:159:9
 returns : tie.Need-returns
 returns c =
     put-the-same _ _ _ _ _
     (ap (flatMap numberBytes) (refused-figures _ _ (c .before .before .before .before .before .before .before .before .before .read-grid .ensures .answer-is) _ _ _ _ _ (c .before .before .before .before .before .before .before .enum-told2 .given .1) (c .before .before .before .before .before .before .file-refusal .ensures) (c .before .before .before .before .before .file-judgement .ensures) (c .before .before .before .no-row .ensures)))
     (c .before .before .put-figures .ensures)
 
--- src/figures.rt:161:43
 index-requires : tie.Need-index-requires
 index-requires c κs = search needs
 
--- src/figures.rt:161:62
 index-requires-2 : tie.Need-index-requires-2
 index-requires-2 c κs = search needs
 
--- src/figures.rt:161:9
 report-of-requires : tie.Need-report-of-requires
 report-of-requires c κs =
     let r = c .before .before .before .before .before in
     grid-counts-pass _ _ _ (r .read-grid .ensures) (c .before .before .before .enum-told .given .1) _ _ (c .before .index .ensures .0) (c .index2 .ensures .0)
 
--- src/figures.rt:162:5
 put-report-requires : tie.Need-put-report-requires
 put-report-requires c κs = search needs
 
--- src/figures.rt:150:1
 same-length-2 : tie.Need-same-length-2
 same-length-2 c = search needs
 
--- src/figures.rt:150:1
 returns-2 : tie.Need-returns-2
 returns-2 c =
     let r = c .before .before .before .before .before .before .before .before .before .before in

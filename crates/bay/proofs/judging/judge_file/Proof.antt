@@ -16,48 +16,38 @@ use Rattle.judge.proofs.judge_grid.Reads as judge-grid-reads
 use Rattle.stored.proofs.file_refusal.Reads as file-refusal-reads
 use Rattle.reader.proofs.read_grid.Reads as read-grid-reads
 
--- src/judging.rt:51:9
 read-grid-requires : tie.Need-read-grid-requires
 read-grid-requires c κs = blank-blocks
 
 enum-told : tie.Need-enum-told
 enum-told c = search needs
 
--- src/judging.rt:54:31
 enum-told-2 : tie.Need-enum-told-2
 enum-told-2 c = search needs
 
--- src/judging.rt:54:31
 file-refusal-requires : tie.Need-file-refusal-requires
 file-refusal-requires c κs = search needs
 
--- src/judging.rt:54:9
 file-judgement-requires : tie.Need-file-judgement-requires
 file-judgement-requires c κs = offset-fits _ _ _ (c .before .before .before .read-grid .ensures .answer-is) (c .file-refusal .ensures)
 
--- src/judging.rt:54:9
 returns : tie.Need-returns
 returns c = judgement-of-refused _ _ (c .before .before .before .before .read-grid .ensures .answer-is) _ _ _ _ (c .before .before .enum-told2 .given .1) (c .before .file-refusal .ensures) (c .file-judgement .ensures)
 
--- src/judging.rt:57:36
 index-requires : tie.Need-index-requires
 index-requires c κs = search needs
 
--- src/judging.rt:57:55
 index-requires-2 : tie.Need-index-requires-2
 index-requires-2 c κs = search needs
 
--- src/judging.rt:57:9
 judge-grid-requires : tie.Need-judge-grid-requires
 judge-grid-requires c κs =
     let r = c .before .before .before .before .before .before in
     (grid-counts-pass _ _ _ (r .read-grid .ensures) (c .before .before .before .before .enum-told .given .1) _ _ (c .before .before .index .ensures .0) (c .before .index2 .ensures .0), refl)
 
--- src/judging.rt:58:5
 table-judgement-requires : tie.Need-table-judgement-requires
 table-judgement-requires c κs = search needs
 
--- src/judging.rt:47:1
 returns-2 : tie.Need-returns-2
 returns-2 c =
     let r = c .before .before .before .before .before .before .before .before in

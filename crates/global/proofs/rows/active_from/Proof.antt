@@ -34,43 +34,34 @@ module _ (c : tie.After-round-up) where
   more-is : c .round-up .result * getD (entry .args .costs .now) (entry .args .own .place) 0 - entry .args .own .budget ≡ up (entry .args .first) (v .period) * cost v - v .budget
   more-is = ap (λ (x : ℕ). x - entry .args .own .budget) asked-is
 
--- src/rows.rt:103:9
 round-up-requires : tie.Need-round-up-requires
 round-up-requires c κs =
     let s = c .before .before .before .before .before in
     (s .pre .1 .0 .is-least .from, period-pos _ (s .pre .0))
 
--- src/rows.rt:105:18
 mul-reached : tie.Need-mul-reached
 mul-reached c = record { fits = omega (arith, end-is (c .before), up-is-tight (entry (c .before) .args .first) (entry (c .before) .args .own .period) (period-pos _ (entry (c .before) .pre .0)), entry (c .before) .pre .0 .period-small, entry (c .before) .pre .1 .0 .within) }
 
--- src/rows.rt:105:5
 mul-reached-2 : tie.Need-mul-reached-2
 mul-reached-2 c = search needs
 
--- src/rows.rt:105:5
 array-write-reached : tie.Need-array-write-reached
 array-write-reached c = entry (c .before) .pre .0 .few
 
--- src/rows.rt:106:24
 mul-more : tie.Need-mul-more
 mul-more c = search needs
 
--- src/rows.rt:106:24
 shared-slice-read-more : tie.Need-shared-slice-read-more
 shared-slice-read-more c = search needs
 
--- src/rows.rt:106:16
 mul-more-2 : tie.Need-mul-more-2
 mul-more-2 c = record { fits = omega (arith, asked-is (c .before .before), own-small _ (entry (c .before .before) .pre .0) (entry (c .before .before) .pre .1 .0), entry (c .before .before) .pre .0 .period-small, entry (c .before .before) .pre .1 .0 .within) }
 
--- src/rows.rt:106:16
 sub-more : tie.Need-sub-more
 sub-more c =
     let r = c .before .before .before in
     omega (arith, asked-is r, own-holds _ (entry r .pre .0) (entry r .pre .1 .0))
 
--- src/rows.rt:110:9
 active-start-requires : tie.Need-active-start-requires
 active-start-requires c κs =
     let s = c .before .before .before .before .before .before .before .before .before in
@@ -79,13 +70,11 @@ active-start-requires c κs =
 add-least-after : tie.Need-add-least-after
 add-least-after c = search needs
 
--- src/rows.rt:107:5
 least-after-requires : tie.Need-least-after-requires
 least-after-requires c κs =
     let r = c .before .before .before .before .before in
     (rw (end-is r, more-is r) (active-after _ (entry r .pre .0) (entry r .pre .1 .0) (entry r .pre .1 .1) (c .before .active-start .ensures _)), omega arith)
 
--- src/rows.rt:89:1
 returns : tie.Need-returns
 returns c =
     let r = c .before .before .before .before .before .before in

@@ -12,36 +12,29 @@ use Rattle.responses.proofs.largest_response.Reads as largest-response-reads
 use Rattle.global.proofs.rows.judge.Reads as judge-reads
 use Rattle.least.proofs.round_up.Reads as round-up-reads
 
--- src/rows.rt:56:9
 round-up-requires : tie.Need-round-up-requires
 round-up-requires c κs =
     let s = c .before .before .before .before .before in
     (active-from _ (s .pre .0) (s .pre .1 .0), period-pos _ (s .pre .0))
 
--- src/rows.rt:57:9
 largest-response-requires : tie.Need-largest-response-requires
 unfolding jobs
 largest-response-requires c κs =
     let s = c .before .before .before .before .before .before in
     (s .pre .0, (record { is-active = s .pre .1 .0; all = c .round-up .ensures }, s .pre .1 .1))
 
--- src/rows.rt:59:18
 mul-t14 : tie.Need-mul-t14
 mul-t14 c = search needs
 
--- src/rows.rt:59:18
 shared-slice-read-t16 : tie.Need-shared-slice-read-t16
 shared-slice-read-t16 c = search needs
 
--- src/rows.rt:59:18
 sub-t17 : tie.Need-sub-t17
 sub-t17 c = budget-below _ (c .before .before .before .before .before .before .before .before .before .pre .0)
 
--- src/rows.rt:66:18
 judge-requires : tie.Need-judge-requires
 judge-requires c κs = search needs
 
--- src/rows.rt:39:1
 returns : tie.Need-returns
 returns c =
     let s = c .before .before .before .before .before .before .before .before .before .before in

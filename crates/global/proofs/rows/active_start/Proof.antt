@@ -10,27 +10,21 @@ use Rattle.global.proofs.rows.active_start.Lts as lts
 use Rattle.least.proofs.spare_of.Reads as spare-of-reads
 use Rattle.least.proofs.standing.Reads as standing-reads
 
--- src/rows.rt:114:9
 returns : tie.Need-returns
 returns c = λ x. starts-nowhere _ x
 
--- src/rows.rt:119:42
 add-spare-of : tie.Need-add-spare-of
 add-spare-of c = omega (arith, c .before .before .before .before .before .pre .1)
 
--- src/rows.rt:119:9
 spare-of-requires : tie.Need-spare-of-requires
 spare-of-requires c κs = c .before .before .before .before .before .pre .0
 
--- src/rows.rt:117:9
 returns-2 : tie.Need-returns-2
 returns-2 c = λ x. starts-nowhere _ x
 
--- src/rows.rt:123:5
 standing-requires : tie.Need-standing-requires
 standing-requires c κs = (c .before .before .before .before .before .before .before .pre .2, omega (arith, c .if2 .left))
 
--- src/rows.rt:109:1
 returns-3 : tie.Need-returns-3
 returns-3 c = λ x. standing-starts _ _ _ _ _ x _ (c .before .before .before .before .before .before .before .before .pre .0) (c .before .before .spare-of .ensures) (omega (arith, c .before .if2 .left)) (c .standing .ensures)
 

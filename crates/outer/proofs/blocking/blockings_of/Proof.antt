@@ -25,19 +25,15 @@ Inv-loop lines n m ceilings blockings₀ l₀ blockings l = (l ≤ m) × (blocki
 abbrev μ-loop : tie.MeasureT-loop
 μ-loop lines n m ceilings blockings₀ l₀ blockings l = m - l
 
--- src/blocking.rt:48:5
 loop-holds : tie.Need-loop-holds Inv-loop μ-loop
 loop-holds c = (omega arith, blocked-none (c .args .n) (now (c .args .lines)) (c .pre .0 .1))
 
--- src/blocking.rt:49:31
 mul-raise-by : tie.Need-mul-raise-by Inv-loop μ-loop
 mul-raise-by c = search needs
 
--- src/blocking.rt:49:31
 array-read-raise-by : tie.Need-array-read-raise-by Inv-loop μ-loop
 array-read-raise-by c = search needs
 
--- src/blocking.rt:49:9
 raise-by-requires : tie.Need-raise-by-requires Inv-loop μ-loop
 raise-by-requires c κs =
     let s = c .before .before .before in
@@ -48,19 +44,15 @@ raise-by-requires c κs =
     getD-padded (ceilingIn (now (a .lines)) (a .n)) 0 0 most (a .m) _ below in
     ((s .pre .0 .1, omega (arith, below, s .pre .0 .2), omega (arith, here, ceiling-listed (now (a .lines)) (a .n) (c .before .before .loop .l) (s .pre .0 .0)), here), c .before .before .loop .inv .1)
 
--- src/blocking.rt:50:9
 add-l : tie.Need-add-l Inv-loop μ-loop
 add-l c = search needs
 
--- src/blocking.rt:48:5
 loop-less : tie.Need-loop-less Inv-loop μ-loop
 loop-less c = turn-less _ _ (c .before .before .loop-test .taken)
 
--- src/blocking.rt:48:5
 loop-again : tie.Need-loop-again Inv-loop μ-loop
 loop-again c = (turn-within _ _ (c .before .before .loop-test .taken), c .raise-by .ensures)
 
--- src/blocking.rt:36:1
 returns : tie.Need-returns Inv-loop μ-loop
 returns c =
     let a = c .before .before .args in

@@ -24,54 +24,42 @@ Inv-loop lines n l ceiling blockings₀ longest₀ t₀ blockings longest t =
 abbrev μ-loop : tie.MeasureT-loop
 μ-loop lines n l ceiling blockings₀ longest₀ t₀ blockings longest t = t
 
--- src/blocking.rt:27:17
 sub-t : tie.Need-sub-t Inv-loop μ-loop
 sub-t c = search needs
 
--- src/blocking.rt:28:5
 loop-holds : tie.Need-loop-holds Inv-loop μ-loop
 loop-holds c =
     let a = c .args in
     let f = columnOf (now (a .lines)) (a .l) in
     (omega arith, omega arith, sym (behind-last f (a .n) _ (omega arith)), raised-last f (a .n) (blockedIn (now (a .lines)) (a .n) (a .l)) most _ (omega arith) (c .pre .1))
 
--- src/blocking.rt:29:35
 held-requires : tie.Need-held-requires Inv-loop μ-loop
 held-requires c κs = search needs
 
--- src/blocking.rt:29:9
 longer-requires : tie.Need-longer-requires Inv-loop μ-loop
 longer-requires c κs = search needs
 
--- src/blocking.rt:30:9
 sub-t-2 : tie.Need-sub-t-2 Inv-loop μ-loop
 sub-t-2 c = search needs
 
--- src/blocking.rt:31:31
 mul-longer : tie.Need-mul-longer Inv-loop μ-loop
 mul-longer c = search needs
 
--- src/blocking.rt:31:31
 element-copy-out-longer : tie.Need-element-copy-out-longer Inv-loop μ-loop
 element-copy-out-longer c = search needs
 
--- src/blocking.rt:31:24
 longer-requires-2 : tie.Need-longer-requires-2 Inv-loop μ-loop
 longer-requires-2 c κs = search needs
 
--- src/blocking.rt:31:9
 mul-blockings : tie.Need-mul-blockings Inv-loop μ-loop
 mul-blockings c = search needs
 
--- src/blocking.rt:31:9
 element-write-blockings : tie.Need-element-write-blockings Inv-loop μ-loop
 element-write-blockings c = search needs
 
--- src/blocking.rt:28:5
 loop-less : tie.Need-loop-less Inv-loop μ-loop
 loop-less c = search needs
 
--- src/blocking.rt:28:5
 loop-again : tie.Need-loop-again Inv-loop μ-loop
 loop-again c =
     let k = c .before .before .before .before .before in
@@ -80,7 +68,6 @@ loop-again c =
     let longest = c .before .before .longer .ensures ∙ ap₂ max (k .loop .inv .2) (c .before .before .before .held .ensures) ∙ sym (behind-next f (a .n) (k .loop .t - 1) (k .loop .t) (omega arith) (k .loop .inv .1)) in
     (omega arith, omega arith, longest, raised-next f (a .n) (blockedIn (now (a .lines)) (a .n) (a .l)) most (k .loop .t - 1) (k .loop .t) (omega arith) (k .loop .inv .1) longest (k .loop .inv .3) refl (c .longer2 .ensures))
 
--- src/blocking.rt:15:1
 returns : tie.Need-returns Inv-loop μ-loop
 returns c =
     let k = c .before in

@@ -8,27 +8,21 @@ use Rattle.outer.proofs.ceilings.fitting_of.Reads as reads
 use Rattle.outer.proofs.ceilings.fitting_of.Lts as lts
 use Rattle.least.proofs.fitting.Reads as fitting-reads
 
--- src/ceilings.rt:121:20
 array-share-prefix-periods : tie.Need-array-share-prefix-periods
 array-share-prefix-periods c = search needs
 
--- src/ceilings.rt:121:20
 slice-aggregate-fitting : tie.Need-slice-aggregate-fitting
 slice-aggregate-fitting c = used-length _ _ (c .before .before .before .pre .1 .0)
 
--- src/ceilings.rt:121:35
 array-share-prefix-costs : tie.Need-array-share-prefix-costs
 array-share-prefix-costs c = search needs
 
--- src/ceilings.rt:121:35
 slice-aggregate-fitting-2 : tie.Need-slice-aggregate-fitting-2
 slice-aggregate-fitting-2 c = used-length _ _ (c .before .before .before .before .pre .1 .1)
 
--- src/ceilings.rt:121:5
 fitting-requires : tie.Need-fitting-requires
 fitting-requires c κs = search needs
 
--- src/ceilings.rt:114:1
 returns : tie.Need-returns
 returns c = search needs
 

@@ -20,54 +20,42 @@ Inv-loop n periods costs frees₀ s₀ frees s = (s ≤ n) × (frees ≡ padded 
 abbrev μ-loop : tie.MeasureT-loop
 μ-loop n periods costs frees₀ s₀ frees s = n - s
 
--- src/ceilings.rt:99:5
 loop-holds : tie.Need-loop-holds Inv-loop μ-loop
 loop-holds c = (omega arith, sym (padded-none (λ (t : ℕ). getD (c .args .t1) t 0 - getD (c .args .t2) t 0) 0 most))
 
--- src/ceilings.rt:100:20
 mul-frees : tie.Need-mul-frees Inv-loop μ-loop
 mul-frees c = search needs
 
--- src/ceilings.rt:100:20
 array-read-frees : tie.Need-array-read-frees Inv-loop μ-loop
 array-read-frees c = search needs
 
--- src/ceilings.rt:100:33
 mul-frees-2 : tie.Need-mul-frees-2 Inv-loop μ-loop
 mul-frees-2 c = search needs
 
--- src/ceilings.rt:100:33
 array-read-frees-2 : tie.Need-array-read-frees-2 Inv-loop μ-loop
 array-read-frees-2 c = search needs
 
--- src/ceilings.rt:100:20
 sub-frees : tie.Need-sub-frees Inv-loop μ-loop
 sub-frees c = c .before .before .pre .1 (c .before .loop .s) (c .loop-test .taken)
 
--- src/ceilings.rt:100:9
 mul-frees-3 : tie.Need-mul-frees-3 Inv-loop μ-loop
 mul-frees-3 c = search needs
 
--- src/ceilings.rt:100:9
 array-write-frees : tie.Need-array-write-frees Inv-loop μ-loop
 array-write-frees c = search needs
 
--- src/ceilings.rt:101:9
 add-s : tie.Need-add-s Inv-loop μ-loop
 add-s c = search needs
 
--- src/ceilings.rt:99:5
 loop-less : tie.Need-loop-less Inv-loop μ-loop
 loop-less c = turn-less _ _ (c .loop-test .taken)
 
--- src/ceilings.rt:99:5
 loop-again : tie.Need-loop-again Inv-loop μ-loop
 loop-again c =
     let h = c .before .loop in
     let s = c .before .before in
     (turn-within _ _ (c .loop-test .taken), filled-next (λ (t : ℕ). getD (s .args .t1) t 0 - getD (s .args .t2) t 0) _ (h .s) _ (h .inv .1) refl (omega (arith, c .loop-test .taken, s .pre .0 .0)))
 
--- src/ceilings.rt:88:1
 returns : tie.Need-returns Inv-loop μ-loop
 returns c =
     let s = c .before .before in

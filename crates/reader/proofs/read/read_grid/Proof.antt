@@ -8,35 +8,27 @@ use Rattle.reader.proofs.ReadHeader.{header-stops, body-decides, header
 use Rattle.reader.proofs.read.read_grid.Statement.{statement}
 use Rattle.reader.proofs.read.read_grid.Tie as tie
 
--- src/read.rt:121:16
 sub-rest : tie.Need-sub-rest
 sub-rest c = search needs
 
--- src/read.rt:121:16
 part-rest-start : tie.Need-part-rest-start
 part-rest-start c = search needs
 
--- src/read.rt:121:16
 part-rest-end : tie.Need-part-rest-end
 part-rest-end c = search needs
 
--- src/read.rt:122:9
 judge-header-requires : tie.Need-judge-header-requires
 judge-header-requires c κs = search needs
 
--- src/read.rt:123:28
 enum-known-answer : tie.Need-enum-known-answer
 enum-known-answer c = search needs
 
--- src/read.rt:125:21
 enum-told : tie.Need-enum-told
 enum-told c = search needs
 
--- src/read.rt:125:21
 answer-at-requires : tie.Need-answer-at-requires
 answer-at-requires c κs = search needs
 
--- src/read.rt:124:9
 returns : tie.Need-returns
 returns c =
     let s = c .before .before .before .before .before .before in
@@ -45,7 +37,6 @@ returns c =
     let told = c .before .enum-told .given in
     header-stops file _ (j .ensures) (told .0 .0) (c .answer-at .result) 0 0 (s .args .grid .now) (s .pre) (told .1) (c .answer-at .ensures)
 
--- src/read.rt:130:9
 value-requires : tie.Need-value-requires
 value-requires c κs =
     let s = c .before .before .before .before .before .before in
@@ -53,7 +44,6 @@ value-requires c κs =
     let j = c .before .before .before .judge-header in
     sound-whole 1 3 headerInRange (partFrom file 0) _ _ (j .ensures) (c .before .answer .given .1)
 
--- src/read.rt:131:13
 shared-slice-read-n : tie.Need-shared-slice-read-n
 shared-slice-read-n c =
     let s = c .before .before .before .before .before .before .before .before in
@@ -63,7 +53,6 @@ shared-slice-read-n c =
     let v = c .before .value in
     omega (arith, sound-value-length 1 3 headerInRange (partFrom file 0) _ _ (j .ensures) (told .1) (v .result .now) (v .ensures))
 
--- src/read.rt:132:13
 shared-slice-read-m : tie.Need-shared-slice-read-m
 shared-slice-read-m c =
     let s = c .before .before .before .before .before .before .before .before .before in
@@ -73,7 +62,6 @@ shared-slice-read-m c =
     let v = c .before .before .value in
     omega (arith, sound-value-length 1 3 headerInRange (partFrom file 0) _ _ (j .ensures) (told .1) (v .result .now) (v .ensures))
 
--- src/read.rt:134:39
 cast-read-subsystems : tie.Need-cast-read-subsystems
 cast-read-subsystems c =
     let s = c .before .before .before .before .before .before .before .before .before in
@@ -85,7 +73,6 @@ cast-read-subsystems c =
     let counts = counts-in-range file _ (j .ensures) _ (told .1) in
     omega (arith, head .0, counts .0)
 
--- src/read.rt:134:51
 cast-read-subsystems-2 : tie.Need-cast-read-subsystems-2
 cast-read-subsystems-2 c =
     let s = c .before .before .before .before .before .before .before .before .before in
@@ -97,7 +84,6 @@ cast-read-subsystems-2 c =
     let counts = counts-in-range file _ (j .ensures) _ (told .1) in
     omega (arith, head .1, counts .1)
 
--- src/read.rt:134:17
 read-subsystems-requires : tie.Need-read-subsystems-requires
 read-subsystems-requires c κs =
     let s = c .before .before .before .before .before .before .before .before .before .before in
@@ -109,7 +95,6 @@ read-subsystems-requires c κs =
     let counts = counts-in-range file _ (j .ensures) _ (told .1) in
     ((omega (arith, head .0, counts .0), head .0), ((omega (arith, head .1, counts .1), head .1), (first-subsystem-within file _ (j .ensures) _ (told .1) _, s .pre)))
 
--- src/read.rt:117:1
 returns-2 : tie.Need-returns-2
 returns-2 c =
     let s = c .before .before .before .before .before .before .before .before .before .before .before in

@@ -23,35 +23,27 @@ use Rattle.reader.proofs.read.answer_at.Reads as answer-at-reads
 use Rattle.reader.proofs.read.read_tasks.Reads as read-tasks-reads
 use Rattle.table.proofs.grid.count.Reads as count-reads
 
--- src/read.rt:77:16
 sub-rest : tie.Need-sub-rest
 sub-rest c = search needs
 
--- src/read.rt:77:16
 part-rest-start : tie.Need-part-rest-start
 part-rest-start c = search needs
 
--- src/read.rt:77:16
 part-rest-end : tie.Need-part-rest-end
 part-rest-end c = search needs
 
--- src/read.rt:78:9
 judge-subsystem-requires : tie.Need-judge-subsystem-requires
 judge-subsystem-requires c κs = search needs
 
--- src/read.rt:79:28
 enum-known-answer : tie.Need-enum-known-answer
 enum-known-answer c = search needs
 
--- src/read.rt:81:21
 enum-told : tie.Need-enum-told
 enum-told c = search needs
 
--- src/read.rt:81:21
 answer-at-requires : tie.Need-answer-at-requires
 answer-at-requires c κs = search needs
 
--- src/read.rt:80:9
 returns : tie.Need-returns
 returns c =
     let s = c .before .before .before .before .before .before in
@@ -60,7 +52,6 @@ returns c =
     let told = c .before .enum-told .given in
     subsystem-stops (a .file .now) (a .m) (a .at) _ (s .pre .1 .0) (j .ensures) (told .0 .0) (c .answer-at .result) (a .block .now) (s .pre .1 .1) (told .1) (c .answer-at .ensures)
 
--- src/read.rt:85:22
 value-requires : tie.Need-value-requires
 value-requires c κs =
     let s = c .before .before .before .before .before .before in
@@ -68,11 +59,9 @@ value-requires c κs =
     let j = c .before .before .before .judge-subsystem in
     sound-whole 2 9 subsystemInRange (partFrom (a .file .now) (a .at)) _ _ (j .ensures) (c .before .answer .given .1)
 
--- src/read.rt:85:40
 index-1-decode-subsystem : tie.Need-index-1-decode-subsystem
 index-1-decode-subsystem c = search needs
 
--- src/read.rt:85:5
 decode-subsystem-requires : tie.Need-decode-subsystem-requires
 decode-subsystem-requires c κs =
     let s = c .before .before .before .before .before .before .before .before in
@@ -83,11 +72,9 @@ decode-subsystem-requires c κs =
       s .pre .1 .1 .wide 0 (omega arith),
     )
 
--- src/read.rt:86:26
 count-requires : tie.Need-count-requires
 count-requires c κs = search needs
 
--- src/read.rt:86:5
 read-tasks-requires : tie.Need-read-tasks-requires
 read-tasks-requires c κs =
     let d = c .before .before .before in
@@ -107,7 +94,6 @@ read-tasks-requires c κs =
       ((first-task-within (a .file .now) (a .m) (a .at) _ within (j .ensures) _ (told .1), lines-kept (a .block .now) 0 _ (omega arith) lines (line .1)), rw written head),
     )
 
--- src/read.rt:73:1
 returns-2 : tie.Need-returns-2
 returns-2 c =
     let j = c .before .before .before .before .before .before .before .before .before .before in

@@ -13,26 +13,21 @@ Inv-loop file n m grid₀ at₀ s₀ grid at s = SubsystemsTo file m n s at grid
 abbrev μ-loop : tie.MeasureT-loop
 μ-loop file n m grid₀ at₀ s₀ grid at s = n - s
 
--- src/read.rt:98:18
 add-at : tie.Need-add-at Inv-loop μ-loop
 add-at c = search needs
 
--- src/read.rt:100:5
 loop-holds : tie.Need-loop-holds Inv-loop μ-loop
 loop-holds c =
     let a = c .before .args in
     let p = c .before .pre .1 .1 in
     subsystems-begin (a .file .now) (a .m) (a .n) (a .grid .now) (p .0) (p .1)
 
--- src/read.rt:101:48
 mul-read-subsystem : tie.Need-mul-read-subsystem Inv-loop μ-loop
 mul-read-subsystem c = search needs
 
--- src/read.rt:101:48
 index-1-read-subsystem : tie.Need-index-1-read-subsystem Inv-loop μ-loop
 index-1-read-subsystem c = search needs
 
--- src/read.rt:101:13
 read-subsystem-requires : tie.Need-read-subsystem-requires Inv-loop μ-loop
 read-subsystem-requires c κs =
     let k = c .before .before in
@@ -44,11 +39,9 @@ read-subsystem-requires c κs =
 enum-told : tie.Need-enum-told Inv-loop μ-loop
 enum-told c = search needs
 
--- src/read.rt:104:13
 enum-told-2 : tie.Need-enum-told-2 Inv-loop μ-loop
 enum-told-2 c = search needs
 
--- src/read.rt:104:13
 returns : tie.Need-returns Inv-loop μ-loop
 returns c =
     let k = c .before .before .before .before .before in
@@ -58,15 +51,12 @@ returns c =
     let told = c .enum-told2 .given in
     subsystems-stop (a .file .now) (a .m) (a .n) (k .loop .s) (k .loop .at) (k .loop .grid) (k .loop .inv) (c .before .before .before .before .loop-test .taken) (s .pre .0 .0) _ (r .result) (r .ensures) (told .0 .0) (told .0 .1 .0) (told .1)
 
--- src/read.rt:107:9
 add-s : tie.Need-add-s Inv-loop μ-loop
 add-s c = search needs
 
--- src/read.rt:100:5
 loop-less : tie.Need-loop-less Inv-loop μ-loop
 loop-less c = search needs
 
--- src/read.rt:100:5
 loop-again : tie.Need-loop-again Inv-loop μ-loop
 loop-again c =
     let k = c .before .before .before .before .before in
@@ -75,7 +65,6 @@ loop-again c =
     let r = c .before .before .read-subsystem in
     subsystems-go-on (a .file .now) (a .m) (a .n) (k .loop .s) (k .loop .at) (k .loop .grid) (k .loop .inv) (c .before .before .before .before .loop-test .taken) (s .pre .0 .0) _ (r .result) (r .ensures) (c .enum-told .given .1)
 
--- src/read.rt:110:9
 returns-2 : tie.Need-returns-2 Inv-loop μ-loop
 returns-2 c =
     let k = c .before .before in
@@ -83,7 +72,6 @@ returns-2 c =
     let a = s .args in
     left-over-stops (a .file .now) (a .m) (a .n) (k .loop .s) (k .loop .at) (k .loop .grid) (k .loop .inv) (c .before .loop-test .left) (c .if1 .taken)
 
--- src/read.rt:92:1
 returns-3 : tie.Need-returns-3 Inv-loop μ-loop
 returns-3 c =
     let k = c .before .before in

@@ -25,58 +25,45 @@ Inv-loop file at n m block₀ place₀ i₀ block place i = TasksTo file m at n 
 abbrev μ-loop : tie.MeasureT-loop
 μ-loop file at n m block₀ place₀ i₀ block place i = n - i
 
--- src/read.rt:51:27
 add-place : tie.Need-add-place Inv-loop μ-loop
 add-place c = search needs
 
--- src/read.rt:51:21
 add-place-2 : tie.Need-add-place-2 Inv-loop μ-loop
 add-place-2 c = omega (arith, c .before .pre .1 .0 .0, first-task-stands (c .before .args .m) (c .before .args .at), c .before .good .0 .0)
 
--- src/read.rt:53:5
 loop-holds : tie.Need-loop-holds Inv-loop μ-loop
 loop-holds c =
     let s = c .before in
     let a = s .args in
     tasks-begin (a .file .now) (a .m) (a .at) (a .n) _ (a .block .now) (s .pre .0 .1 .1) refl (s .pre .1 .0 .0) (s .pre .1 .0 .1) (s .pre .1 .1)
 
--- src/read.rt:54:20
 sub-rest : tie.Need-sub-rest Inv-loop μ-loop
 sub-rest c = search needs
 
--- src/read.rt:54:20
 part-rest-start : tie.Need-part-rest-start Inv-loop μ-loop
 part-rest-start c = search needs
 
--- src/read.rt:54:20
 part-rest-end : tie.Need-part-rest-end Inv-loop μ-loop
 part-rest-end c = search needs
 
--- src/read.rt:55:53
 mul-judge : tie.Need-mul-judge Inv-loop μ-loop
 mul-judge c = search needs
 
--- src/read.rt:55:40
 add-judge : tie.Need-add-judge Inv-loop μ-loop
 add-judge c = search needs
 
--- src/read.rt:55:13
 judge-requires : tie.Need-judge-requires Inv-loop μ-loop
 judge-requires c κs = search needs
 
--- src/read.rt:56:32
 enum-known-answer : tie.Need-enum-known-answer Inv-loop μ-loop
 enum-known-answer c = search needs
 
--- src/read.rt:58:25
 enum-told : tie.Need-enum-told Inv-loop μ-loop
 enum-told c = search needs
 
--- src/read.rt:58:25
 answer-at-requires : tie.Need-answer-at-requires Inv-loop μ-loop
 answer-at-requires c κs = search needs
 
--- src/read.rt:57:13
 returns : tie.Need-returns Inv-loop μ-loop
 returns c =
     let k = c .before .before .before .before .before .before in
@@ -86,7 +73,6 @@ returns c =
     let j = c .before .before .before .judge in
     tasks-stop (a .file .now) (a .m) (a .at) (a .n) (k .loop .i) (k .loop .place) (k .loop .block) (k .loop .inv) (c .before .before .before .before .before .loop-test .taken) (j .result) (j .ensures) (told .0 .0) (c .answer-at .result) (told .1) (c .answer-at .ensures)
 
--- src/read.rt:62:21
 value-requires : tie.Need-value-requires Inv-loop μ-loop
 value-requires c κs =
     let k = c .before .before .before .before .before .before in
@@ -94,19 +80,15 @@ value-requires c κs =
     let a = s .args in
     sound-whole 3 (taskLength (a .m)) anyValue (partFrom (a .file .now) (k .loop .place)) _ _ (c .before .before .before .judge .ensures) (c .before .answer .given .1)
 
--- src/read.rt:62:53
 add-decode-task : tie.Need-add-decode-task Inv-loop μ-loop
 add-decode-task c = search needs
 
--- src/read.rt:62:42
 mul-decode-task : tie.Need-mul-decode-task Inv-loop μ-loop
 mul-decode-task c = search needs
 
--- src/read.rt:62:42
 index-1-decode-task : tie.Need-index-1-decode-task Inv-loop μ-loop
 index-1-decode-task c = search needs
 
--- src/read.rt:62:9
 decode-task-requires : tie.Need-decode-task-requires Inv-loop μ-loop
 decode-task-requires c κs =
     let k = c .before .before .before .before .before .before .before .before in
@@ -116,7 +98,6 @@ decode-task-requires c κs =
     let size = sound-value-length 3 (taskLength (a .m)) anyValue (partFrom (a .file .now) (k .loop .place)) _ _ (c .before .before .before .before .before .judge .ensures) (c .before .before .before .answer .given .1) (v .result .now) (v .ensures) in
     ((s .pre .0 .0, le-of-eq (sym size)), k .loop .inv .lines .wide (k .loop .i + 1) (omega (arith, c .before .before .before .before .before .before .before .loop-test .taken, s .pre .0 .1 .0)))
 
--- src/read.rt:63:18
 add-place-3 : tie.Need-add-place-3 Inv-loop μ-loop
 add-place-3 c =
     let k = c .before .before .before .before .before .before .before .before .before in
@@ -124,7 +105,6 @@ add-place-3 c =
     let a = s .args in
     omega (arith, sound-length 3 (taskLength (a .m)) anyValue (partFrom (a .file .now) (k .loop .place)) _ _ (c .before .before .before .before .before .before .judge .ensures) (c .before .before .before .before .answer .given .1), s .pre .0 .0)
 
--- src/read.rt:63:9
 add-place-4 : tie.Need-add-place-4 Inv-loop μ-loop
 add-place-4 c =
     let k = c .before .before .before .before .before .before .before .before .before in
@@ -133,15 +113,12 @@ add-place-4 c =
     let whole = sound-whole 3 (taskLength (a .m)) anyValue (partFrom (a .file .now) (k .loop .place)) _ _ (c .before .before .before .before .before .before .judge .ensures) (c .before .before .before .before .answer .given .1) in
     omega (arith, whole-within (a .file .now) (k .loop .place) _ (k .loop .inv .within) whole, s .good .0 .0)
 
--- src/read.rt:64:9
 add-i : tie.Need-add-i Inv-loop μ-loop
 add-i c = search needs
 
--- src/read.rt:53:5
 loop-less : tie.Need-loop-less Inv-loop μ-loop
 loop-less c = search needs
 
--- src/read.rt:53:5
 loop-again : tie.Need-loop-again Inv-loop μ-loop
 loop-again c =
     let k = c .before .before .before .before .before .before .before .before .before in
@@ -150,7 +127,6 @@ loop-again c =
     let v = c .before .before .value in
     tasks-go-on (a .file .now) (a .m) (a .at) (a .n) (k .loop .i) (k .loop .place) (k .loop .block) (k .loop .inv) (c .before .before .before .before .before .before .before .before .loop-test .taken) _ (c .before .before .before .before .before .before .judge .ensures) _ (v .result .now) _ (c .before .before .before .before .answer .given .1) (v .ensures) (c .decode-task .ensures .0) (c .decode-task .ensures .1) (s .pre .0 .1 .0)
 
--- src/read.rt:45:1
 returns-2 : tie.Need-returns-2 Inv-loop μ-loop
 returns-2 c =
     let k = c .before in

@@ -5,36 +5,30 @@ use Rattle.reader.proofs.WholeGrids.{head-fits, whole-is-read, refused-
 use Rattle.reader.proofs.taken.read_table.Statement.{statement}
 use Rattle.reader.proofs.taken.read_table.Tie as tie
 
--- src/taken.rt:78:9
 read-grid-requires : tie.Need-read-grid-requires
 read-grid-requires c κs = blank-blocks
 
 enum-told : tie.Need-enum-told
 enum-told c = search needs
 
--- src/taken.rt:83:20
 enum-told-2 : tie.Need-enum-told-2
 enum-told-2 c = search needs
 
--- src/taken.rt:83:20
 zeros-requires : tie.Need-zeros-requires
 zeros-requires c κs = search needs
 
--- src/taken.rt:81:9
 returns : tie.Need-returns
 returns c =
     let r = c .before .before .before .read-grid in
     let told = c .before .enum-told2 .given in
     refused-is-read _ _ (r .result) (r .ensures) (told .0 .0) (told .0 .1 .0) (c .zeros .result) (told .1) (c .zeros .ensures)
 
--- src/taken.rt:88:16
 table-of-requires : tie.Need-table-of-requires
 table-of-requires c κs =
     let r = c .before .before .before .read-grid in
     let fits = head-fits _ _ (r .result) (r .ensures) (c .before .enum-told .given .1) in
     (fits .0, (fits .1, fits .2))
 
--- src/taken.rt:74:1
 returns-2 : tie.Need-returns-2
 returns-2 c =
     let r = c .before .before .before .before .read-grid in

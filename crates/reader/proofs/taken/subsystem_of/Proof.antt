@@ -17,27 +17,21 @@ Inv-loop block m n sub₀ i₀ sub i = (i ≤ n) × (sub ≡ subsystemUpTo (subs
 abbrev μ-loop : tie.MeasureT-loop
 μ-loop block m n sub₀ i₀ sub i = n - i
 
--- src/taken.rt:41:9
 count-requires : tie.Need-count-requires Inv-loop μ-loop
 count-requires c κs = search needs
 
--- src/taken.rt:42:19
 zeros-requires : tie.Need-zeros-requires Inv-loop μ-loop
 zeros-requires c κs = search needs
 
--- src/taken.rt:43:18
 period-requires : tie.Need-period-requires Inv-loop μ-loop
 period-requires c κs = search needs
 
--- src/taken.rt:44:18
 budget-requires : tie.Need-budget-requires Inv-loop μ-loop
 budget-requires c κs = search needs
 
--- src/taken.rt:45:17
 cast-sub : tie.Need-cast-sub Inv-loop μ-loop
 cast-sub c = search needs
 
--- src/taken.rt:47:5
 loop-holds : tie.Need-loop-holds Inv-loop μ-loop
 loop-holds c =
     let a = c .before .before .before .before .args in
@@ -48,27 +42,21 @@ loop-holds c =
       subsystem-begins (subsystemIn m block) (z .result) _ _ _ (z .ensures) (c .before .period .ensures ∙ sym (period-of-block m block)) (c .budget .ensures ∙ sym (budget-of-block m block)) (c .before .before .before .count .ensures ∙ sym (count-of-block m block)),
     )
 
--- src/taken.rt:48:13
 task-of-requires : tie.Need-task-of-requires Inv-loop μ-loop
 task-of-requires c κs = search needs
 
--- src/taken.rt:49:9
 mul-task : tie.Need-mul-task Inv-loop μ-loop
 mul-task c = search needs
 
--- src/taken.rt:49:9
 element-set-from-task : tie.Need-element-set-from-task Inv-loop μ-loop
 element-set-from-task c = search needs
 
--- src/taken.rt:50:9
 add-i : tie.Need-add-i Inv-loop μ-loop
 add-i c = search needs
 
--- src/taken.rt:47:5
 loop-less : tie.Need-loop-less Inv-loop μ-loop
 loop-less c = search needs
 
--- src/taken.rt:47:5
 loop-again : tie.Need-loop-again Inv-loop μ-loop
 loop-again c =
     let k = c .before .before in
@@ -82,7 +70,6 @@ loop-again c =
           (c .task-of .ensures ∙ ap taskWith (sym (task-of-block m block (k .loop .i) (omega (arith, below, count))))),
     )
 
--- src/taken.rt:37:1
 returns : tie.Need-returns Inv-loop μ-loop
 returns c =
     let k = c .before in

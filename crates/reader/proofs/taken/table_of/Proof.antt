@@ -17,11 +17,9 @@ Inv-loop grid n m t₀ s₀ t s = (s ≤ n) × (t ≡ tableUpTo (systemIn n m gr
 abbrev μ-loop : tie.MeasureT-loop
 μ-loop grid n m t₀ s₀ t s = n - s
 
--- src/taken.rt:60:17
 zeros-requires : tie.Need-zeros-requires Inv-loop μ-loop
 zeros-requires c κs = search needs
 
--- src/taken.rt:64:5
 loop-holds : tie.Need-loop-holds Inv-loop μ-loop
 loop-holds c =
     let a = c .before .args in
@@ -30,38 +28,30 @@ loop-holds c =
     let grid = a .grid .now in
     (search needs, table-begins (systemIn n m grid) (c .zeros .result) n m (c .zeros .ensures) (sym (count-of-grid n m grid)) (sym (resources-of-grid n m grid)))
 
--- src/taken.rt:65:32
 mul-subsystem-of : tie.Need-mul-subsystem-of Inv-loop μ-loop
 mul-subsystem-of c = search needs
 
--- src/taken.rt:65:32
 index-1-subsystem-of : tie.Need-index-1-subsystem-of Inv-loop μ-loop
 index-1-subsystem-of c = search needs
 
--- src/taken.rt:65:13
 subsystem-of-requires : tie.Need-subsystem-of-requires Inv-loop μ-loop
 subsystem-of-requires c κs =
     let k = c .before .before in
     let s = k .before .before in
     (s .pre .1 .1 (k .loop .s) (c .before .loop-test .taken), s .pre .1 .0)
 
--- src/taken.rt:66:9
 mul-sub : tie.Need-mul-sub Inv-loop μ-loop
 mul-sub c = search needs
 
--- src/taken.rt:66:9
 element-set-from-sub : tie.Need-element-set-from-sub Inv-loop μ-loop
 element-set-from-sub c = search needs
 
--- src/taken.rt:67:9
 add-s : tie.Need-add-s Inv-loop μ-loop
 add-s c = search needs
 
--- src/taken.rt:64:5
 loop-less : tie.Need-loop-less Inv-loop μ-loop
 loop-less c = search needs
 
--- src/taken.rt:64:5
 loop-again : tie.Need-loop-again Inv-loop μ-loop
 loop-again c =
     let k = c .before .before .before in
@@ -75,7 +65,6 @@ loop-again c =
           (c .subsystem-of .ensures ∙ ap subsystemWith (sym (subsystem-of-grid n m grid (k .loop .s) below))),
     )
 
--- src/taken.rt:56:1
 returns : tie.Need-returns Inv-loop μ-loop
 returns c =
     let k = c .before in

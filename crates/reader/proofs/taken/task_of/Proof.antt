@@ -15,49 +15,38 @@ Inv-loop block i m task₀ l₀ task l = (l ≤ m) × (task ≡ taskUpTo (taskIn
 abbrev μ-loop : tie.MeasureT-loop
 μ-loop block i m task₀ l₀ task l = m - l
 
--- src/taken.rt:24:20
 zeros-requires : tie.Need-zeros-requires Inv-loop μ-loop
 zeros-requires c κs = search needs
 
--- src/taken.rt:25:23
 separation-requires : tie.Need-separation-requires Inv-loop μ-loop
 separation-requires c κs = search needs
 
--- src/taken.rt:26:17
 work-requires : tie.Need-work-requires Inv-loop μ-loop
 work-requires c κs = search needs
 
--- src/taken.rt:27:21
 deadline-requires : tie.Need-deadline-requires Inv-loop μ-loop
 deadline-requires c κs = search needs
 
--- src/taken.rt:29:5
 loop-holds : tie.Need-loop-holds Inv-loop μ-loop
 loop-holds c =
     let a = c .before .before .before .before .args in
     (search needs, times-of-line (a .m) (a .i) (a .block .now) (c .before .before .before .zeros .result) _ _ _ (c .before .before .before .zeros .ensures) (c .before .before .separation .ensures) (c .before .work .ensures) (c .deadline .ensures))
 
--- src/taken.rt:30:26
 access-requires : tie.Need-access-requires Inv-loop μ-loop
 access-requires c κs = search needs
 
--- src/taken.rt:30:9
 mul-task : tie.Need-mul-task Inv-loop μ-loop
 mul-task c = search needs
 
--- src/taken.rt:30:9
 element-write-task : tie.Need-element-write-task Inv-loop μ-loop
 element-write-task c = search needs
 
--- src/taken.rt:31:9
 add-l : tie.Need-add-l Inv-loop μ-loop
 add-l c = search needs
 
--- src/taken.rt:29:5
 loop-less : tie.Need-loop-less Inv-loop μ-loop
 loop-less c = search needs
 
--- src/taken.rt:29:5
 loop-again : tie.Need-loop-again Inv-loop μ-loop
 loop-again c =
     let k = c .before .before in
@@ -69,7 +58,6 @@ loop-again c =
           (c .access .ensures ∙ sym (access-of-line (a .m) (a .block .now) (a .i) (k .loop .l) below)),
     )
 
--- src/taken.rt:20:1
 returns : tie.Need-returns Inv-loop μ-loop
 returns c =
     let k = c .before in

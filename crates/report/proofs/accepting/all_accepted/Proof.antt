@@ -1,3 +1,4 @@
+-- `report::accepting::all_accepted` meets its contract. Assumes nothing.
 use Prim.Native.Nat.{_≤_, _-_}
 use mathlib.Core.Path.{_≡_}
 use mathlib.Core.Bool.{true}
@@ -20,42 +21,33 @@ Inv-loop n rows s₀ s = (s ≤ n) × (allTo (slotAccepted rows) s ≡ true)
 abbrev μ-loop : tie.MeasureT-loop
 μ-loop n rows s₀ s = n - s
 
--- src/accepting.rt:39:5
 loop-holds : tie.Need-loop-holds Inv-loop μ-loop
 loop-holds c = (search needs, allTo-zero _)
 
--- src/accepting.rt:40:19
 mul-row : tie.Need-mul-row Inv-loop μ-loop
 mul-row c = search needs
 
--- src/accepting.rt:40:19
 array-copy-out-row : tie.Need-array-copy-out-row Inv-loop μ-loop
 array-copy-out-row c = search needs
 
--- src/accepting.rt:41:13
 is-accepted-requires : tie.Need-is-accepted-requires Inv-loop μ-loop
 is-accepted-requires c κs = search needs
 
--- src/accepting.rt:42:13
 returns : tie.Need-returns Inv-loop μ-loop
 returns c = row-rejected (c .before .before .before .before .before .args .t1) (c .before .before .before .before .before .args .n) (c .before .before .before .before .loop .s) (omega arith) _ (c .before .is-accepted .ensures) (not-true _ (c .if1 .taken))
 
--- src/accepting.rt:44:9
 add-s : tie.Need-add-s Inv-loop μ-loop
 add-s c = search needs
 
--- src/accepting.rt:39:5
 loop-less : tie.Need-loop-less Inv-loop μ-loop
 loop-less c = search needs
 
--- src/accepting.rt:39:5
 loop-again : tie.Need-loop-again Inv-loop μ-loop
 loop-again c = (
   search needs,
   row-accepted (c .before .before .before .before .before .args .t1) (c .before .before .before .before .before .args .n) (c .before .before .before .before .loop .s) _ (c .before .is-accepted .ensures) (not-false _ (c .if1 .left)) (c .before .before .before .before .loop .inv .1),
 )
 
--- src/accepting.rt:34:1
 returns-2 : tie.Need-returns-2 Inv-loop μ-loop
 returns-2 c = all-rows-accepted _ _ _ (omega arith) (c .before .loop .inv .1)
 

@@ -1,3 +1,4 @@
+-- `report::accepting::is_accepted` meets its contract. Assumes nothing.
 use native.Mathlib.Omega.{arith}
 use Rattle.report.proofs.AcceptedLaws.{accepted-by-fit, rejected-by-task}
 use borrow.Author.Needs.{needs}
@@ -7,15 +8,12 @@ use Rattle.report.proofs.accepting.is_accepted.Reads as reads
 use Rattle.report.proofs.accepting.is_accepted.Lts as lts
 use Rattle.report.proofs.accepting.row_fits.Reads as row-fits-reads
 
--- src/accepting.rt:28:9
 row-fits-requires : tie.Need-row-fits-requires
 row-fits-requires c κs = search needs
 
--- src/accepting.rt:28:9
 returns : tie.Need-returns
 returns c = accepted-by-fit _ _ (c .before .if1 .taken) (c .row-fits .ensures)
 
--- src/accepting.rt:23:1
 returns-2 : tie.Need-returns-2
 returns-2 c = rejected-by-task _ (c .if1 .left)
 

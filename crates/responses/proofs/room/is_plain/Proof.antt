@@ -1,4 +1,4 @@
--- `global::responses::is_plain` meets its contract. The loop's invariant: the resources so far have the highest ceiling where they are held.
+-- `responses::room::is_plain` meets its contract. The loop's invariant: the resources so far have the highest ceiling where they are held.
 -- Assumes nothing.
 use Prim.Native.Nat.{ℕ, _-_, _≤_, _<_}
 use mathlib.Core.Path.{_≡_, sym, subst}
@@ -19,49 +19,38 @@ Inv-loop holdings ceilings n l₀ l = (l ≤ length holdings) × ((i : ℕ) → 
 abbrev μ-loop : tie.MeasureT-loop
 μ-loop holdings ceilings n l₀ l = length holdings - l
 
--- src/responses.rt:177:9
 returns : tie.Need-returns Inv-loop μ-loop
 returns c = λ h. absurd (subst T (sym h) tt)
 
--- src/responses.rt:180:5
 loop-holds : tie.Need-loop-holds Inv-loop μ-loop
 loop-holds c = search needs
 
--- src/responses.rt:181:12
 mul-if2 : tie.Need-mul-if2 Inv-loop μ-loop
 mul-if2 c = search needs
 
--- src/responses.rt:181:12
 shared-slice-read-if2 : tie.Need-shared-slice-read-if2 Inv-loop μ-loop
 shared-slice-read-if2 c = search needs
 
--- src/responses.rt:182:16
 mul-if3 : tie.Need-mul-if3 Inv-loop μ-loop
 mul-if3 c = search needs
 
--- src/responses.rt:182:16
 shared-slice-read-if3 : tie.Need-shared-slice-read-if3 Inv-loop μ-loop
 shared-slice-read-if3 c = search needs
 
--- src/responses.rt:183:17
 returns-2 : tie.Need-returns-2 Inv-loop μ-loop
 returns-2 c = λ h. absurd (subst T (sym h) tt)
 
--- src/responses.rt:186:9
 add-l : tie.Need-add-l Inv-loop μ-loop
 add-l c = search needs
 
--- src/responses.rt:180:5
 loop-less : tie.Need-loop-less Inv-loop μ-loop
 loop-less c = search needs
 
--- src/responses.rt:180:5
 loop-again : tie.Need-loop-again Inv-loop μ-loop
 loop-again c =
     let h = c .before .before .before .loop in
     (omega (arith, c .before .before .loop-test .taken), λ i u v. ⊎-elim (λ (q : h .l ≤ i). ⊎-elim (λ w. let same : i ≡ h .l = omega arith in rw same (w .2 .left)) (λ w. let same : i ≡ h .l = omega arith in absurd (omega (arith, w .left, rw same at v))) (c .if2 .came)) (λ (q : i < h .l). h .inv .1 i q v) (le-or-lt (h .l) i))
 
--- src/responses.rt:172:1
 returns-3 : tie.Need-returns-3 Inv-loop μ-loop
 returns-3 c = λ _ l u v. c .before .loop .inv .1 l (omega (arith, c .loop-test .left)) v
 

@@ -1,4 +1,4 @@
--- `global::responses::is_worse_at` compares in wide numbers, where nothing overflows. Assumes nothing.
+-- `responses::room::is_worse_at` compares in wide numbers, where nothing overflows. Assumes nothing.
 use native.Mathlib.Omega.{arith}
 use Prim.Native.Nat.{_+_}
 use mathlib.Core.Path.{ap₂}
@@ -10,27 +10,21 @@ use Rattle.responses.proofs.room.is_worse_at.Reads as reads
 use Rattle.responses.proofs.room.is_worse_at.Lts as lts
 use Rattle.numbers.proofs.wide.Reads as wide-reads
 
--- src/responses.rt:195:5
 wide-requires : tie.Need-wide-requires
 wide-requires c κs = search needs
 
--- src/responses.rt:195:33
 mul-wide : tie.Need-mul-wide
 mul-wide c = search needs
 
--- src/responses.rt:195:28
 wide-requires-2 : tie.Need-wide-requires-2
 wide-requires-2 c κs = search needs
 
--- src/responses.rt:195:5
 add-result : tie.Need-add-result
 add-result c = search needs
 
--- src/responses.rt:195:51
 wide-requires-3 : tie.Need-wide-requires-3
 wide-requires-3 c κs = search needs
 
--- src/responses.rt:191:1
 returns : tie.Need-returns
 returns c = ap₂ ltb (ap₂ _+_ (c .before .before .before .wide .ensures .0) (c .before .wide2 .ensures .0)) (c .wide3 .ensures .0)
 

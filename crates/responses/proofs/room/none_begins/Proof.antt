@@ -1,4 +1,4 @@
--- `global::responses::none_begins` meets its contract. The loop's invariant: the loads so far have no period that begins before x. Assumes nothing.
+-- `responses::room::none_begins` meets its contract. The loop's invariant: the loads so far have no period that begins before x. Assumes nothing.
 use Prim.Native.Nat.{ℕ, _-_, _≤_, _<_}
 use mathlib.Core.Path.{_≡_, sym, subst}
 use mathlib.Core.Logic.{⊎-elim}
@@ -18,37 +18,29 @@ Inv-loop ends n x t₀ t = (t ≤ n) × ((i : ℕ) → i < t → x ≤ getD ends
 abbrev μ-loop : tie.MeasureT-loop
 μ-loop ends n x t₀ t = n - t
 
--- src/responses.rt:202:5
 loop-holds : tie.Need-loop-holds Inv-loop μ-loop
 loop-holds c = search needs
 
--- src/responses.rt:203:12
 mul-if1 : tie.Need-mul-if1 Inv-loop μ-loop
 mul-if1 c = search needs
 
--- src/responses.rt:203:12
 element-copy-out-if1 : tie.Need-element-copy-out-if1 Inv-loop μ-loop
 element-copy-out-if1 c = omega (arith, c .loop-test .taken, c .before .before .pre .0)
 
--- src/responses.rt:204:13
 returns : tie.Need-returns Inv-loop μ-loop
 returns c = λ h. absurd (subst T (sym h) tt)
 
--- src/responses.rt:206:9
 add-t : tie.Need-add-t Inv-loop μ-loop
 add-t c = search needs
 
--- src/responses.rt:202:5
 loop-less : tie.Need-loop-less Inv-loop μ-loop
 loop-less c = search needs
 
--- src/responses.rt:202:5
 loop-again : tie.Need-loop-again Inv-loop μ-loop
 loop-again c =
     let h = c .before .before .before .loop in
     (omega (arith, c .before .before .loop-test .taken), λ i u. ⊎-elim (λ (q : h .t ≤ i). let same : i ≡ h .t = omega arith in rw same (c .if1 .left)) (λ (q : i < h .t). h .inv .1 i q) (le-or-lt (h .t) i))
 
--- src/responses.rt:194:1
 returns-2 : tie.Need-returns-2 Inv-loop μ-loop
 returns-2 c = λ _ i u. c .before .loop .inv .1 i (omega (arith, c .loop-test .left))
 

@@ -1,4 +1,4 @@
--- `report::interface::interface_of` meets its contract. Assumes nothing.
+-- `rows::interface::interface_of` meets its contract. Assumes nothing.
 use borrow.Author.Needs.{needs}
 use Prim.Native.Nat.{_-_, _≤_}
 use native.Mathlib.Omega.{arith}
@@ -18,35 +18,27 @@ Inv-loop block m held line₀ l₀ line l = (l ≤ m) × (m ≤ most) × LineTo 
 abbrev μ-loop : tie.MeasureT-loop
 μ-loop block m held line₀ l₀ line l = m - l
 
--- src/interface.rt:32:15
 period-requires : tie.Need-period-requires Inv-loop μ-loop
 period-requires c κs = search needs
 
--- src/interface.rt:32:5
 array-write-line : tie.Need-array-write-line Inv-loop μ-loop
 array-write-line c = search needs
 
--- src/interface.rt:33:15
 budget-requires : tie.Need-budget-requires Inv-loop μ-loop
 budget-requires c κs = search needs
 
--- src/interface.rt:33:5
 array-write-line-2 : tie.Need-array-write-line-2 Inv-loop μ-loop
 array-write-line-2 c = search needs
 
--- src/interface.rt:35:5
 loop-holds : tie.Need-loop-holds Inv-loop μ-loop
 loop-holds c = (search needs, c .before .before .pre .0 .resources-most, line-begins _ _ _ _ (c .before .period .ensures) (c .budget .ensures))
 
--- src/interface.rt:36:23
 mul-line : tie.Need-mul-line Inv-loop μ-loop
 mul-line c = search needs
 
--- src/interface.rt:36:23
 element-copy-out-line : tie.Need-element-copy-out-line Inv-loop μ-loop
 element-copy-out-line c = search needs
 
--- src/interface.rt:36:23
 cast-line : tie.Need-cast-line Inv-loop μ-loop
 cast-line c =
     let k = c .before .before in
@@ -54,27 +46,21 @@ cast-line c =
     let below = c .before .loop-test .taken in
     omega (arith, holding-small (s .args .block .now) (s .args .m) (s .pre .0) (k .loop .l) below, held-here (subsystemIn (s .args .m) (s .args .block .now)) (s .args .m) (k .loop .l) (s .args .held .now) (s .pre .1) below)
 
--- src/interface.rt:36:14
 add-line : tie.Need-add-line Inv-loop μ-loop
 add-line c = search needs
 
--- src/interface.rt:36:9
 mul-line-2 : tie.Need-mul-line-2 Inv-loop μ-loop
 mul-line-2 c = search needs
 
--- src/interface.rt:36:9
 array-write-line-3 : tie.Need-array-write-line-3 Inv-loop μ-loop
 array-write-line-3 c = search needs
 
--- src/interface.rt:37:9
 add-l : tie.Need-add-l Inv-loop μ-loop
 add-l c = search needs
 
--- src/interface.rt:35:5
 loop-less : tie.Need-loop-less Inv-loop μ-loop
 loop-less c = search needs
 
--- src/interface.rt:35:5
 loop-again : tie.Need-loop-again Inv-loop μ-loop
 loop-again c =
     let k = c .before .before in
@@ -82,7 +68,6 @@ loop-again c =
     let below = c .before .loop-test .taken in
     (search needs, k .loop .inv .1, line-more (s .args .m) (s .args .block .now) (k .loop .line) (k .loop .l) _ (omega (arith, below, k .loop .inv .1)) (k .loop .inv .2) (held-here (subsystemIn (s .args .m) (s .args .block .now)) (s .args .m) (k .loop .l) (s .args .held .now) (s .pre .1) below))
 
--- src/interface.rt:22:1
 returns : tie.Need-returns Inv-loop μ-loop
 returns c =
     let k = c .before in

@@ -1,4 +1,4 @@
--- `report::interface::interfaces_of` meets its contract. Assumes nothing.
+-- `rows::interface::interfaces_of` meets its contract. Assumes nothing.
 use borrow.Author.Needs.{needs}
 use Prim.Native.Nat.{_-_, _≤_}
 use native.Mathlib.Omega.{arith}
@@ -16,27 +16,21 @@ Inv-loop grid n m holdings lines₀ s₀ lines s = (n ≤ most) × (s ≤ n) × 
 abbrev μ-loop : tie.MeasureT-loop
 μ-loop grid n m holdings lines₀ s₀ lines s = n - s
 
--- src/interface.rt:56:5
 loop-holds : tie.Need-loop-holds Inv-loop μ-loop
 loop-holds c = (few-subsystems _ _ _ (c .pre .0) .0, search needs, lines-begin _ _ _ _ (c .pre .1 .1))
 
--- src/interface.rt:57:33
 mul-interface-of : tie.Need-mul-interface-of Inv-loop μ-loop
 mul-interface-of c = search needs
 
--- src/interface.rt:57:33
 index-1-interface-of : tie.Need-index-1-interface-of Inv-loop μ-loop
 index-1-interface-of c = search needs
 
--- src/interface.rt:57:46
 mul-interface-of-2 : tie.Need-mul-interface-of-2 Inv-loop μ-loop
 mul-interface-of-2 c = search needs
 
--- src/interface.rt:57:46
 index-1-interface-of-2 : tie.Need-index-1-interface-of-2 Inv-loop μ-loop
 index-1-interface-of-2 c = search needs
 
--- src/interface.rt:57:13
 interface-of-requires : tie.Need-interface-of-requires Inv-loop μ-loop
 interface-of-requires c κs =
     let k = c .before .before .before in
@@ -46,23 +40,18 @@ interface-of-requires c κs =
       held-slot (s .args .n) (s .args .m) (s .args .grid .now) (k .loop .s) below (s .args .holdings .now) (s .pre .1 .0),
     )
 
--- src/interface.rt:58:9
 mul-line : tie.Need-mul-line Inv-loop μ-loop
 mul-line c = search needs
 
--- src/interface.rt:58:9
 element-set-from-line : tie.Need-element-set-from-line Inv-loop μ-loop
 element-set-from-line c = search needs
 
--- src/interface.rt:59:9
 add-s : tie.Need-add-s Inv-loop μ-loop
 add-s c = search needs
 
--- src/interface.rt:56:5
 loop-less : tie.Need-loop-less Inv-loop μ-loop
 loop-less c = search needs
 
--- src/interface.rt:56:5
 loop-again : tie.Need-loop-again Inv-loop μ-loop
 loop-again c =
     let k = c .before .before .before .before in
@@ -70,7 +59,6 @@ loop-again c =
     let below = c .before .before .before .loop-test .taken in
     (k .loop .inv .0, search needs, lines-more (s .args .n) (s .args .m) (s .args .grid .now) (k .loop .lines) (k .loop .s) _ (omega (arith, below, k .loop .inv .0)) (k .loop .inv .2) (c .interface-of .ensures))
 
--- src/interface.rt:43:1
 returns : tie.Need-returns Inv-loop μ-loop
 returns c =
     let k = c .before in

@@ -1,3 +1,4 @@
+-- `rules::breaks::count_out` meets its contract. Assumes nothing.
 use native.Mathlib.Omega.{arith}
 use Prim.Native.Nat.{ℕ}
 use mathlib.Core.Path.{ap, _∙_}
@@ -11,15 +12,12 @@ use Rattle.rules.proofs.breaks.count_out.Reads as reads
 use Rattle.rules.proofs.breaks.count_out.Lts as lts
 use Rattle.numbers.proofs.index.Reads as index-reads
 
--- src/breaks.rt:17:9
 index-requires : tie.Need-index-requires
 index-requires c κs = search needs
 
--- src/breaks.rt:19:9
 returns : tie.Need-returns
 returns c = out-below (c .before .before .args .n) most (omega arith)
 
--- src/breaks.rt:14:1
 returns-2 : tie.Need-returns-2
 returns-2 c = ap (λ (n : ℕ). ltb most n) (c .before .index .ensures .0) ∙ out-above (c .before .before .args .n) most (omega arith)
 

@@ -21,34 +21,27 @@ Inv-loop block m i longest₀ l₀ longest l = (l ≤ m) × (longest ≡ largest
 abbrev μ-loop : tie.MeasureT-loop
 μ-loop block m i longest₀ l₀ longest l = m - l
 
--- src/breaks.rt:58:5
 loop-holds : tie.Need-loop-holds Inv-loop μ-loop
 loop-holds c = (search needs, sym (largestTo-zero _))
 
--- src/breaks.rt:59:35
 access-requires : tie.Need-access-requires Inv-loop μ-loop
 access-requires c κs = search needs
 
--- src/breaks.rt:59:9
 longer-requires : tie.Need-longer-requires Inv-loop μ-loop
 longer-requires c κs = search needs
 
--- src/breaks.rt:60:9
 add-l : tie.Need-add-l Inv-loop μ-loop
 add-l c = search needs
 
--- src/breaks.rt:58:5
 loop-less : tie.Need-loop-less Inv-loop μ-loop
 loop-less c = search needs
 
--- src/breaks.rt:58:5
 loop-again : tie.Need-loop-again Inv-loop μ-loop
 loop-again c =
     let k = c .before .before .before in
     let a = k .before .args in
     (search needs, c .longer .ensures ∙ access-turn (a .block .now) (a .i) (k .loop .l) (k .loop .longest) _ (k .loop .inv .1) (c .before .access .ensures))
 
--- src/breaks.rt:52:1
 returns : tie.Need-returns Inv-loop μ-loop
 returns c =
     let k = c .before in

@@ -11,27 +11,21 @@ use Rattle.rules.proofs.breaks.time_out.Reads as time-out-reads
 use Rattle.table.proofs.grid.budget.Reads as budget-reads
 use Rattle.table.proofs.grid.period.Reads as period-reads
 
--- src/breaks.rt:45:17
 period-requires : tie.Need-period-requires
 period-requires c κs = search needs
 
--- src/breaks.rt:45:8
 time-out-requires : tie.Need-time-out-requires
 time-out-requires c κs = search needs
 
--- src/breaks.rt:46:9
 returns : tie.Need-returns
 returns c = or-first _ _ _ (c .before .time-out .ensures ∙ ap timeOut (c .before .before .period .ensures)) (c .if1 .taken)
 
--- src/breaks.rt:48:14
 budget-requires : tie.Need-budget-requires
 budget-requires c κs = search needs
 
--- src/breaks.rt:48:5
 time-out-requires-2 : tie.Need-time-out-requires-2
 time-out-requires-2 c κs = search needs
 
--- src/breaks.rt:42:1
 returns-2 : tie.Need-returns-2
 returns-2 c =
     or-second _ _ _ _ (c .before .before .before .time-out .ensures ∙ ap timeOut (c .before .before .before .before .period .ensures)) (c .before .before .if1 .left)

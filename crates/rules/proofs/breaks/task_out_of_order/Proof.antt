@@ -12,27 +12,21 @@ use Rattle.table.proofs.grid.deadline.Reads as deadline-reads
 use Rattle.table.proofs.grid.separation.Reads as separation-reads
 use Rattle.table.proofs.grid.work.Reads as work-reads
 
--- src/breaks.rt:94:8
 deadline-requires : tie.Need-deadline-requires
 deadline-requires c κs = search needs
 
--- src/breaks.rt:94:29
 work-requires : tie.Need-work-requires
 work-requires c κs = search needs
 
--- src/breaks.rt:95:9
 returns : tie.Need-returns
 returns c = or-first _ _ _ (ap₂ ltb (c .before .before .deadline .ensures) (c .before .work .ensures)) (lt-ltb _ _ (c .if1 .taken))
 
--- src/breaks.rt:97:5
 separation-requires : tie.Need-separation-requires
 separation-requires c κs = search needs
 
--- src/breaks.rt:97:28
 deadline-requires-2 : tie.Need-deadline-requires-2
 deadline-requires-2 c κs = search needs
 
--- src/breaks.rt:90:1
 returns-2 : tie.Need-returns-2
 returns-2 c =
     or-second _ _ _ _ (ap₂ ltb (c .before .before .before .before .deadline .ensures) (c .before .before .before .work .ensures)) (le-ltb _ _ (c .before .before .if1 .left))

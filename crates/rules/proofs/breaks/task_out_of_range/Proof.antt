@@ -12,42 +12,33 @@ use Rattle.table.proofs.grid.deadline.Reads as deadline-reads
 use Rattle.table.proofs.grid.separation.Reads as separation-reads
 use Rattle.table.proofs.grid.work.Reads as work-reads
 
--- src/breaks.rt:77:17
 separation-requires : tie.Need-separation-requires
 separation-requires c κs = search needs
 
--- src/breaks.rt:77:8
 time-out-requires : tie.Need-time-out-requires
 time-out-requires c κs = search needs
 
--- src/breaks.rt:78:9
 returns : tie.Need-returns
 returns c = four-first _ _ _ _ _ (c .before .time-out .ensures ∙ ap timeOut (c .before .before .separation .ensures)) (c .if1 .taken)
 
--- src/breaks.rt:80:17
 work-requires : tie.Need-work-requires
 work-requires c κs = search needs
 
--- src/breaks.rt:80:8
 time-out-requires-2 : tie.Need-time-out-requires-2
 time-out-requires-2 c κs = search needs
 
--- src/breaks.rt:81:9
 returns-2 : tie.Need-returns-2
 returns-2 c =
     let s = c .before .before .before in
     four-second _ _ _ _ _ (s .before .time-out .ensures ∙ ap timeOut (s .before .before .separation .ensures)) (s .if1 .left)
     _ (c .before .time-out2 .ensures ∙ ap timeOut (c .before .before .work .ensures)) (c .if2 .taken)
 
--- src/breaks.rt:83:17
 deadline-requires : tie.Need-deadline-requires
 deadline-requires c κs = search needs
 
--- src/breaks.rt:83:8
 time-out-requires-3 : tie.Need-time-out-requires-3
 time-out-requires-3 c κs = search needs
 
--- src/breaks.rt:84:9
 returns-3 : tie.Need-returns-3
 returns-3 c =
     let w = c .before .before .before in
@@ -56,7 +47,6 @@ returns-3 c =
     _ (w .before .time-out2 .ensures ∙ ap timeOut (w .before .before .work .ensures)) (w .if2 .left)
     _ (c .before .time-out3 .ensures ∙ ap timeOut (c .before .before .deadline .ensures)) (c .if3 .taken)
 
--- src/breaks.rt:73:1
 returns-4 : tie.Need-returns-4
 returns-4 c =
     let w = c .before .before .before in

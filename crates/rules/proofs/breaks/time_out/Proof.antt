@@ -1,3 +1,4 @@
+-- `rules::breaks::time_out` meets its contract. Assumes nothing.
 use Rattle.rules.proofs.BreaksLaws.{out-below, out-above}
 use borrow.Author.Needs.{needs}
 use native.Mathlib.Omega.{arith}
@@ -6,11 +7,9 @@ use Rattle.rules.proofs.breaks.time_out.Tie as tie
 use Rattle.rules.proofs.breaks.time_out.Reads as reads
 use Rattle.rules.proofs.breaks.time_out.Lts as lts
 
--- src/breaks.rt:29:9
 returns : tie.Need-returns
 returns c = out-below _ _ (c .if1 .taken)
 
--- src/breaks.rt:25:1
 returns-2 : tie.Need-returns-2
 returns-2 c = out-above _ _ (c .if1 .left)
 

@@ -8,43 +8,33 @@ use Rattle.rules.proofs.places.earlier.Reads as reads
 use Rattle.rules.proofs.places.earlier.Lts as lts
 use Rattle.rules.proofs.places.rule_number.Reads as rule-number-reads
 
--- src/places.rt:35:25
 enum-known-next : tie.Need-enum-known-next
 enum-known-next c = search needs
 
--- src/places.rt:36:9
 enum-told : tie.Need-enum-told
 enum-told c = search needs
 
--- src/places.rt:36:9
 returns : tie.Need-returns
 returns c = search needs
 
--- src/places.rt:38:25
 enum-known-found : tie.Need-enum-known-found
 enum-known-found c = search needs
 
--- src/places.rt:39:9
 enum-told-2 : tie.Need-enum-told-2
 enum-told-2 c = search needs
 
--- src/places.rt:39:9
 returns-2 : tie.Need-returns-2
 returns-2 c = after-none _ _ _ _ (c .before .before .before .next .given .1) (c .enum-told2 .given .1)
 
--- src/places.rt:41:8
 rule-number-requires : tie.Need-rule-number-requires
 rule-number-requires c κs = search needs
 
--- src/places.rt:41:28
 rule-number-requires-2 : tie.Need-rule-number-requires-2
 rule-number-requires-2 c κs = search needs
 
--- src/places.rt:32:1
 returns-3 : tie.Need-returns-3
 returns-3 c = by-lower _ _ _ _ (c .before .before .before .before .before .before .before .next .given .1) _ _ (c .before .before .before .before .found .given .1) _ _ (c .before .before .rule-number .ensures) (c .before .rule-number2 .ensures) (c .if1 .taken)
 
--- src/places.rt:32:1
 returns-4 : tie.Need-returns-4
 returns-4 c = by-no-lower _ _ _ _ (c .before .before .before .before .before .before .before .next .given .1) _ _ (c .before .before .before .before .found .given .1) _ _ (c .before .before .rule-number .ensures) (c .before .rule-number2 .ensures) (c .if1 .left)
 

@@ -7,23 +7,18 @@ use Rattle.rules.proofs.places.is_first.Reads as reads
 use Rattle.rules.proofs.places.is_first.Lts as lts
 use Rattle.rules.proofs.places.rule_number.Reads as rule-number-reads
 
--- src/places.rt:59:29
 enum-told : tie.Need-enum-told
 enum-told c = search needs
 
--- src/places.rt:60:25
 enum-known-found : tie.Need-enum-known-found
 enum-known-found c = search needs
 
--- src/places.rt:60:37
 rule-number-requires : tie.Need-rule-number-requires
 rule-number-requires c κs = search needs
 
--- src/places.rt:55:1
 returns : tie.Need-returns
 returns c = search needs
 
--- src/places.rt:55:1
 returns-2 : tie.Need-returns-2
 returns-2 c = first-by _ _ _ _ (c .before .before .found .given .1) (c .rule-number .ensures)
 

@@ -14,24 +14,19 @@ use Rattle.rules.proofs.breaks.own_out_of_range.Reads as own-out-of-ran
 use Rattle.table.proofs.grid.budget.Reads as budget-reads
 use Rattle.table.proofs.grid.period.Reads as period-reads
 
--- src/places.rt:70:8
 own-out-of-range-requires : tie.Need-own-out-of-range-requires
 own-out-of-range-requires c κs = search needs
 
--- src/places.rt:71:9
 returns : tie.Need-returns
 unfolding judgedOwn
 returns c = at-range _ _ (own-range _ _ _ (c .before .own-out-of-range .ensures) ∙ c .if1 .taken)
 
--- src/places.rt:73:8
 period-requires : tie.Need-period-requires
 period-requires c κs = search needs
 
--- src/places.rt:73:24
 budget-requires : tie.Need-budget-requires
 budget-requires c κs = search needs
 
--- src/places.rt:74:9
 returns-2 : tie.Need-returns-2
 unfolding judgedOwn
 returns-2 c =
@@ -39,7 +34,6 @@ returns-2 c =
     at-order _ _ (own-range _ _ _ (r .before .own-out-of-range .ensures) ∙ r .if1 .left)
     (own-order _ _ ∙ ap₂ ltb (sym (c .before .before .period .ensures)) (sym (c .before .budget .ensures)) ∙ lt-ltb _ _ (c .if2 .taken))
 
--- src/places.rt:65:1
 returns-3 : tie.Need-returns-3
 unfolding judgedOwn
 returns-3 c =

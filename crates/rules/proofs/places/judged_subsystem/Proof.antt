@@ -23,47 +23,36 @@ Inv-loop block m subsystem n found₀ i₀ found i = (n ≡ countIn block) × (i
 abbrev μ-loop : tie.MeasureT-loop
 μ-loop block m subsystem n found₀ i₀ found i = n - i
 
--- src/places.rt:112:9
 count-requires : tie.Need-count-requires Inv-loop μ-loop
 count-requires c κs = search needs
 
--- src/places.rt:113:9
 judged-own-requires : tie.Need-judged-own-requires Inv-loop μ-loop
 judged-own-requires c κs = search needs
 
--- src/places.rt:115:5
 loop-holds : tie.Need-loop-holds Inv-loop μ-loop
 loop-holds c = (search needs, search needs, judged-own _ _ _ _ (c .judged-own .ensures))
 
--- src/places.rt:118:20
 add-t10 : tie.Need-add-t10 Inv-loop μ-loop
 add-t10 c = search needs
 
--- src/places.rt:118:19
 cast-t11 : tie.Need-cast-t11 Inv-loop μ-loop
 cast-t11 c = search needs
 
--- src/places.rt:120:13
 judged-task-requires : tie.Need-judged-task-requires Inv-loop μ-loop
 judged-task-requires c κs = search needs
 
--- src/places.rt:121:12
 is-refused-requires : tie.Need-is-refused-requires Inv-loop μ-loop
 is-refused-requires c κs = search needs
 
--- src/places.rt:122:13
 earlier-requires : tie.Need-earlier-requires Inv-loop μ-loop
 earlier-requires c κs = search needs
 
--- src/places.rt:124:9
 add-i : tie.Need-add-i Inv-loop μ-loop
 add-i c = search needs
 
--- src/places.rt:115:5
 loop-less : tie.Need-loop-less Inv-loop μ-loop
 loop-less c = search needs
 
--- src/places.rt:115:5
 loop-again : tie.Need-loop-again Inv-loop μ-loop
 loop-again c =
     let t = c .before .before in
@@ -76,7 +65,6 @@ loop-again c =
           (⊎-elim (λ w. w .2 ∙ w .1 .ensures) (λ w. w .1 ∙ as-it-was found (t .judged-task .result) (sym (c .before .is-refused .ensures) ∙ w .0 .left)) (c .if1 .came) ∙ ap (earlier found) (t .judged-task .ensures)),
     )
 
--- src/places.rt:108:1
 returns : tie.Need-returns Inv-loop μ-loop
 returns c =
     let k = c .before in

@@ -16,24 +16,19 @@ use Rattle.rules.proofs.breaks.task_out_of_order.Reads as task-out-of-o
 use Rattle.rules.proofs.breaks.task_out_of_range.Reads as task-out-of-range-reads
 use Rattle.table.proofs.grid.work.Reads as work-reads
 
--- src/places.rt:84:9
 longest-of-task-requires : tie.Need-longest-of-task-requires
 longest-of-task-requires c κs = search needs
 
--- src/places.rt:85:8
 task-out-of-range-requires : tie.Need-task-out-of-range-requires
 task-out-of-range-requires c κs = search needs
 
--- src/places.rt:86:9
 returns : tie.Need-returns
 unfolding judgedTask
 returns c = at-range _ _ (task-range _ _ _ _ (c .before .before .longest-of-task .ensures) _ (c .before .task-out-of-range .ensures) ∙ c .if1 .taken)
 
--- src/places.rt:88:8
 task-out-of-order-requires : tie.Need-task-out-of-order-requires
 task-out-of-order-requires c κs = search needs
 
--- src/places.rt:89:9
 returns-2 : tie.Need-returns-2
 unfolding judgedTask
 returns-2 c =
@@ -41,11 +36,9 @@ returns-2 c =
     at-order _ _ (task-range _ _ _ _ (r .before .before .longest-of-task .ensures) _ (r .before .task-out-of-range .ensures) ∙ r .if1 .left)
     (task-order _ _ _ _ (c .before .task-out-of-order .ensures) ∙ c .if2 .taken)
 
--- src/places.rt:91:8
 work-requires : tie.Need-work-requires
 work-requires c κs = search needs
 
--- src/places.rt:92:9
 returns-3 : tie.Need-returns-3
 unfolding judgedTask
 returns-3 c =
@@ -56,7 +49,6 @@ returns-3 c =
     (task-order _ _ _ _ (o .before .task-out-of-order .ensures) ∙ o .if2 .left)
     (sym (task-access _ _ _ _ longest) ∙ ap (λ (w : ℕ). ltb w (r .before .before .longest-of-task .result)) (sym (c .before .work .ensures)) ∙ lt-ltb _ _ (c .if3 .taken))
 
--- src/places.rt:80:1
 returns-4 : tie.Need-returns-4
 unfolding judgedTask
 returns-4 c =

@@ -11,24 +11,19 @@ use Rattle.rules.proofs.places.earlier.Reads as earlier-reads
 use Rattle.rules.proofs.places.is_first.Reads as is-first-reads
 use Rattle.rules.proofs.places.judged_subsystem.Reads as judged-subsystem-reads
 
--- src/places.rt:133:8
 is-first-requires : tie.Need-is-first-requires
 is-first-requires c κs = search needs
 
--- src/places.rt:134:9
 returns : tie.Need-returns
 unfolding judgedSubsystem
 returns c = nothing-earlier _ _ (sym (c .before .is-first .ensures) ∙ c .if1 .taken)
 
--- src/places.rt:136:20
 judged-subsystem-requires : tie.Need-judged-subsystem-requires
 judged-subsystem-requires c κs = search needs
 
--- src/places.rt:136:5
 earlier-requires : tie.Need-earlier-requires
 earlier-requires c κs = search needs
 
--- src/places.rt:129:1
 returns-2 : tie.Need-returns-2
 returns-2 c = c .earlier .ensures ∙ ap (earlier _) (c .before .judged-subsystem .ensures)
 

@@ -8,35 +8,27 @@ use Rattle.stored.proofs.decode.decode_subsystem.Lts as lts
 use Rattle.stored.proofs.number.number_at.Reads as number-at-reads
 use Rattle.stored.proofs.number.wide.Reads as wide-reads
 
--- src/decode.rt:28:15
 number-at-requires : tie.Need-number-at-requires
 number-at-requires c κs = search needs
 
--- src/decode.rt:28:5
 element-write-line : tie.Need-element-write-line
 element-write-line c = search needs
 
--- src/decode.rt:29:15
 number-at-requires-2 : tie.Need-number-at-requires-2
 number-at-requires-2 c κs = search needs
 
--- src/decode.rt:29:5
 element-write-line-2 : tie.Need-element-write-line-2
 element-write-line-2 c = search needs
 
--- src/decode.rt:30:20
 shared-slice-read-wide : tie.Need-shared-slice-read-wide
 shared-slice-read-wide c = search needs
 
--- src/decode.rt:30:15
 wide-requires : tie.Need-wide-requires
 wide-requires c κs = search needs
 
--- src/decode.rt:30:5
 element-write-line-3 : tie.Need-element-write-line-3
 element-write-line-3 c = search needs
 
--- src/decode.rt:23:1
 returns : tie.Need-returns
 returns c =
     let s = c .before .before .before .before .before in

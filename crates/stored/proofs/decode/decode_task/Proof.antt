@@ -19,31 +19,24 @@ Inv-loop value m line₀ l₀ line l = (l ≤ m) × IsLine line × LineOf l (dec
 abbrev μ-loop : tie.MeasureT-loop
 μ-loop value m line₀ l₀ line l = m - l
 
--- src/decode.rt:39:15
 number-at-requires : tie.Need-number-at-requires Inv-loop μ-loop
 number-at-requires c κs = search needs
 
--- src/decode.rt:39:5
 element-write-line : tie.Need-element-write-line Inv-loop μ-loop
 element-write-line c = search needs
 
--- src/decode.rt:40:15
 number-at-requires-2 : tie.Need-number-at-requires-2 Inv-loop μ-loop
 number-at-requires-2 c κs = search needs
 
--- src/decode.rt:40:5
 element-write-line-2 : tie.Need-element-write-line-2 Inv-loop μ-loop
 element-write-line-2 c = search needs
 
--- src/decode.rt:41:15
 number-at-requires-3 : tie.Need-number-at-requires-3 Inv-loop μ-loop
 number-at-requires-3 c κs = search needs
 
--- src/decode.rt:41:5
 element-write-line-3 : tie.Need-element-write-line-3 Inv-loop μ-loop
 element-write-line-3 c = search needs
 
--- src/decode.rt:43:5
 loop-holds : tie.Need-loop-holds Inv-loop μ-loop
 loop-holds c =
     let s = c .before .before .before .before in
@@ -53,39 +46,30 @@ loop-holds c =
       line-begins (s .args .m) (s .args .value .now) line (s .pre .1) _ _ _ (c .before .before .number-at .ensures) (c .before .number-at2 .ensures) (c .number-at3 .ensures),
     )
 
--- src/decode.rt:44:53
 mul-number-at : tie.Need-mul-number-at Inv-loop μ-loop
 mul-number-at c = search needs
 
--- src/decode.rt:44:40
 add-number-at : tie.Need-add-number-at Inv-loop μ-loop
 add-number-at c = search needs
 
--- src/decode.rt:44:23
 number-at-requires-4 : tie.Need-number-at-requires-4 Inv-loop μ-loop
 number-at-requires-4 c κs = search needs
 
--- src/decode.rt:44:14
 add-line : tie.Need-add-line Inv-loop μ-loop
 add-line c = search needs
 
--- src/decode.rt:44:9
 mul-line : tie.Need-mul-line Inv-loop μ-loop
 mul-line c = search needs
 
--- src/decode.rt:44:9
 element-write-line-4 : tie.Need-element-write-line-4 Inv-loop μ-loop
 element-write-line-4 c = search needs
 
--- src/decode.rt:45:9
 add-l : tie.Need-add-l Inv-loop μ-loop
 add-l c = search needs
 
--- src/decode.rt:43:5
 loop-less : tie.Need-loop-less Inv-loop μ-loop
 loop-less c = search needs
 
--- src/decode.rt:43:5
 loop-again : tie.Need-loop-again Inv-loop μ-loop
 unfolding decodedAccess
 loop-again c =
@@ -98,7 +82,6 @@ loop-again c =
       one-access-more (a .m) (a .value .now) (k .loop .l) (c .number-at4 .result) (k .loop .line) (c .before .loop-test .taken) (s .pre .0 .0) (known .1) (known .2) (c .number-at4 .ensures),
     )
 
--- src/decode.rt:34:1
 returns : tie.Need-returns Inv-loop μ-loop
 returns c =
     let k = c .before in

@@ -15,46 +15,36 @@ Inv-loop grid₀ t n s₀ grid s = (s ≤ n) × GridTo t s grid
 abbrev μ-loop : tie.MeasureT-loop
 μ-loop grid₀ t n s₀ grid s = n - s
 
--- src/grid.rt:118:13
 cast-n : tie.Need-cast-n Inv-loop μ-loop
 cast-n c = search needs
 
--- src/grid.rt:120:5
 loop-holds : tie.Need-loop-holds Inv-loop μ-loop
 loop-holds c = (search needs, no-block-yet (c .args .t1) (c .args .grid .now) (c .pre .1))
 
--- src/grid.rt:121:19
 mul-sub : tie.Need-mul-sub Inv-loop μ-loop
 mul-sub c = search needs
 
--- src/grid.rt:121:19
 element-copy-out-sub : tie.Need-element-copy-out-sub Inv-loop μ-loop
 element-copy-out-sub c = search needs
 
--- src/grid.rt:122:32
 mul-lay-out-subsystem : tie.Need-mul-lay-out-subsystem Inv-loop μ-loop
 mul-lay-out-subsystem c = search needs
 
--- src/grid.rt:122:32
 index-1-lay-out-subsystem : tie.Need-index-1-lay-out-subsystem Inv-loop μ-loop
 index-1-lay-out-subsystem c = search needs
 
--- src/grid.rt:122:9
 lay-out-subsystem-requires : tie.Need-lay-out-subsystem-requires Inv-loop μ-loop
 lay-out-subsystem-requires c κs =
     let k = c .before .before .before in
     let below = c .before .before .loop-test .taken in
     (k .before .pre .0 .tasks-most (k .loop .s) below, k .loop .inv .1 .blocks .lines (k .loop .s) (omega (arith, below, k .before .pre .0 .subsystems-most)))
 
--- src/grid.rt:123:9
 add-s : tie.Need-add-s Inv-loop μ-loop
 add-s c = search needs
 
--- src/grid.rt:120:5
 loop-less : tie.Need-loop-less Inv-loop μ-loop
 loop-less c = search needs
 
--- src/grid.rt:120:5
 loop-again : tie.Need-loop-again Inv-loop μ-loop
 loop-again c =
     let k = c .before .before .before .before in
@@ -62,7 +52,6 @@ loop-again c =
     let laid = c .lay-out-subsystem .ensures in
     (search needs, one-block-more (k .before .args .t1) (k .loop .s) (k .loop .grid) _ (omega (arith, below, k .before .pre .0 .subsystems-most)) (k .loop .inv .1) (laid .1) (laid .0))
 
--- src/grid.rt:114:1
 returns : tie.Need-returns Inv-loop μ-loop
 returns c =
     let k = c .before in

@@ -16,62 +16,48 @@ Inv-loop block₀ sub n i₀ block i = (i ≤ n) × BlockTo sub i block
 abbrev μ-loop : tie.MeasureT-loop
 μ-loop block₀ sub n i₀ block i = n - i
 
--- src/grid.rt:102:41
 cast-t11 : tie.Need-cast-t11 Inv-loop μ-loop
 cast-t11 c = search needs
 
--- src/grid.rt:102:5
 element-set-from-block : tie.Need-element-set-from-block Inv-loop μ-loop
 element-set-from-block c = search needs
 
--- src/grid.rt:103:13
 cast-n : tie.Need-cast-n Inv-loop μ-loop
 cast-n c = search needs
 
--- src/grid.rt:105:5
 loop-holds : tie.Need-loop-holds Inv-loop μ-loop
 loop-holds c = (search needs, own-line (c .args .t1) (c .args .block .now) _ (c .pre .1) refl)
 
--- src/grid.rt:106:20
 mul-task : tie.Need-mul-task Inv-loop μ-loop
 mul-task c = search needs
 
--- src/grid.rt:106:20
 element-copy-out-task : tie.Need-element-copy-out-task Inv-loop μ-loop
 element-copy-out-task c = search needs
 
--- src/grid.rt:107:13
 line-of-requires : tie.Need-line-of-requires Inv-loop μ-loop
 line-of-requires c κs = search needs
 
--- src/grid.rt:108:15
 add-line : tie.Need-add-line Inv-loop μ-loop
 add-line c = search needs
 
--- src/grid.rt:108:9
 mul-line : tie.Need-mul-line Inv-loop μ-loop
 mul-line c = search needs
 
--- src/grid.rt:108:9
 element-set-from-line : tie.Need-element-set-from-line Inv-loop μ-loop
 element-set-from-line c = search needs
 
--- src/grid.rt:109:9
 add-i : tie.Need-add-i Inv-loop μ-loop
 add-i c = search needs
 
--- src/grid.rt:105:5
 loop-less : tie.Need-loop-less Inv-loop μ-loop
 loop-less c = search needs
 
--- src/grid.rt:105:5
 loop-again : tie.Need-loop-again Inv-loop μ-loop
 loop-again c =
     let k = c .before .before .before in
     let a = k .before .args in
     (search needs, one-line-more (a .t1) (k .loop .i) (k .loop .block) (c .line-of .result) (omega (arith, c .before .before .loop-test .taken, k .before .pre .0)) (k .loop .inv .1) (c .line-of .ensures .0) (c .line-of .ensures .1))
 
--- src/grid.rt:98:1
 returns : tie.Need-returns Inv-loop μ-loop
 returns c = (block-is (c .before .before .args .t1) (c .before .loop .i) (c .before .loop .block) (omega (arith, c .loop-test .left, c .before .loop .inv .0)) (c .before .loop .inv .1), c .before .loop .inv .1 .lines)
 

@@ -5,39 +5,30 @@ use Rattle.table.proofs.GridLaws.{line-is}
 use Rattle.table.proofs.grid.line_of.Statement.{statement}
 use Rattle.table.proofs.grid.line_of.Tie as tie
 
--- src/grid.rt:86:9
 array-read-t5 : tie.Need-array-read-t5
 array-read-t5 c = search needs
 
--- src/grid.rt:87:9
 array-read-t8 : tie.Need-array-read-t8
 array-read-t8 c = search needs
 
--- src/grid.rt:88:9
 array-read-t11 : tie.Need-array-read-t11
 array-read-t11 c = search needs
 
--- src/grid.rt:89:9
 array-read-t14 : tie.Need-array-read-t14
 array-read-t14 c = search needs
 
--- src/grid.rt:90:9
 array-read-t17 : tie.Need-array-read-t17
 array-read-t17 c = search needs
 
--- src/grid.rt:91:9
 array-read-t20 : tie.Need-array-read-t20
 array-read-t20 c = search needs
 
--- src/grid.rt:92:9
 array-read-t23 : tie.Need-array-read-t23
 array-read-t23 c = search needs
 
--- src/grid.rt:93:9
 array-read-t26 : tie.Need-array-read-t26
 array-read-t26 c = search needs
 
--- src/grid.rt:78:1
 returns : tie.Need-returns
 returns c = (line-is (c .before .args .task), refl)
 

@@ -1,3 +1,4 @@
+-- `text::line::put_figure` meets its contract. Assumes nothing.
 use native.Mathlib.Omega.{arith}
 use mathlib.Core.Path.{_∙_}
 use Rattle.lines.proofs.DecimalLaws.{decimal-at-most-ten}
@@ -10,11 +11,9 @@ use Rattle.text.proofs.line.put_figure.Lts as lts
 use Rattle.lines.proofs.put_bytes.Reads as put-bytes-reads
 use Rattle.lines.proofs.put_number.Reads as put-number-reads
 
--- src/line.rt:22:9
 put-bytes-requires : tie.Need-put-bytes-requires
 put-bytes-requires c κs = search needs
 
--- src/line.rt:23:5
 put-number-requires : tie.Need-put-number-requires
 put-number-requires c κs =
     let s = c .before .before .before .before .before .before .before in
@@ -26,11 +25,9 @@ put-number-requires c κs =
       s .pre,
     )
 
--- src/line.rt:18:1
 same-length : tie.Need-same-length
 same-length c = c .before .before .put-number .kept .0 ∙ c .before .before .before .before .before .before .put-bytes .kept .0
 
--- src/line.rt:18:1
 returns : tie.Need-returns
 returns c =
     wrote-then (omega (arith, c .before .before .before .before .before .before .before .before .before .before .pre)) (wrote (c .before .before .before .before .before .before .put-bytes .ensures)) (wrote (c .before .before .put-number .ensures))

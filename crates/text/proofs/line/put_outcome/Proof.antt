@@ -1,3 +1,4 @@
+-- `text::line::put_outcome` meets its contract. Assumes nothing.
 use mathlib.Core.Path.{sym, ap}
 use borrow.Author.Needs.{needs}
 use Rattle.lines.specs.Words.{word}
@@ -9,69 +10,54 @@ use Rattle.text.proofs.line.put_outcome.Reads as reads
 use Rattle.text.proofs.line.put_outcome.Lts as lts
 use Rattle.lines.proofs.put_bytes.Reads as put-bytes-reads
 
--- src/line.rt:32:39
 enum-told : tie.Need-enum-told
 enum-told c = search needs
 
--- src/line.rt:32:48
 slice-aggregate-put-bytes : tie.Need-slice-aggregate-put-bytes
 slice-aggregate-put-bytes c = search needs
 
--- src/line.rt:32:29
 put-bytes-requires : tie.Need-put-bytes-requires
 put-bytes-requires c κs = search needs
 
--- src/line.rt:33:39
 enum-told-2 : tie.Need-enum-told-2
 enum-told-2 c = search needs
 
--- src/line.rt:33:48
 slice-aggregate-put-bytes-2 : tie.Need-slice-aggregate-put-bytes-2
 slice-aggregate-put-bytes-2 c = search needs
 
--- src/line.rt:33:29
 put-bytes-requires-2 : tie.Need-put-bytes-requires-2
 put-bytes-requires-2 c κs = search needs
 
--- src/line.rt:34:36
 enum-told-3 : tie.Need-enum-told-3
 enum-told-3 c = search needs
 
--- src/line.rt:34:45
 slice-aggregate-put-bytes-3 : tie.Need-slice-aggregate-put-bytes-3
 slice-aggregate-put-bytes-3 c = search needs
 
--- src/line.rt:34:26
 put-bytes-requires-3 : tie.Need-put-bytes-requires-3
 put-bytes-requires-3 c κs = search needs
 
--- src/line.rt:27:1
 same-length : tie.Need-same-length
 same-length c = search needs
 
--- src/line.rt:27:1
 returns : tie.Need-returns
 unfolding word
 returns c =
     wrote-same (sym (ap outcomeWord (c .before .before .before .before .before .enum-told .given .1)))
     (wrote (c .before .before .put-bytes .ensures))
 
--- src/line.rt:27:1
 same-length-2 : tie.Need-same-length-2
 same-length-2 c = search needs
 
--- src/line.rt:27:1
 returns-2 : tie.Need-returns-2
 unfolding word
 returns-2 c =
     wrote-same (sym (ap outcomeWord (c .before .before .before .before .before .enum-told2 .given .1)))
     (wrote (c .before .before .put-bytes2 .ensures))
 
--- src/line.rt:27:1
 same-length-3 : tie.Need-same-length-3
 same-length-3 c = search needs
 
--- src/line.rt:27:1
 returns-3 : tie.Need-returns-3
 unfolding word
 returns-3 c =

@@ -1,3 +1,4 @@
+-- `text::line::put_row` meets its contract. Assumes nothing.
 use native.Mathlib.Omega.{arith}
 use borrow.Author.Needs.{needs}
 use Rattle.text.specs.Lines.{rowStart, rowLine}
@@ -14,19 +15,15 @@ use Rattle.text.proofs.line.put_row_start.Reads as put-row-start-reads
 behind-start : (c : tie.After-put-row-start) → Run (c .before .before .before .args .buf .now) (c .before .before .before .args .at) startMost (rowStart (c .before .before .before .args .s) (c .before .before .before .args .row)) (c .put-row-start .last .0) (c .put-row-start .result)
 behind-start c = record { writes = c .put-row-start .ensures; small = rowStart-most (c .before .before .before .args .s) (c .before .before .before .args .row) }
 
--- src/line.rt:81:9
 put-row-start-requires : tie.Need-put-row-start-requires
 put-row-start-requires c κs = search needs
 
--- src/line.rt:82:5
 put-row-end-requires : tie.Need-put-row-end-requires
 put-row-end-requires c κs = omega (arith, run-room endMost (omega (arith, c .before .before .before .before .before .before .pre .1)) (behind-start (c .before .before .before)))
 
--- src/line.rt:77:1
 same-length : tie.Need-same-length
 same-length c = search needs
 
--- src/line.rt:77:1
 returns : tie.Need-returns
 unfolding rowLine
 returns c = run-on (omega (arith, c .before .before .before .before .before .before .before .before .before .pre .1)) (behind-start (c .before .before .before .before .before .before)) (rowEnd-most (c .before .before .before .before .before .before .before .before .before .args .row)) (c .before .before .put-row-end .ensures) .writes

@@ -1,3 +1,4 @@
+-- `text::line::put_row_end` meets its contract. Assumes nothing.
 use native.Mathlib.Omega.{arith}
 use Prim.Native.Nat.{ℕ, _+_}
 use mathlib.Core.Path.{ap}
@@ -54,51 +55,39 @@ behind-resource : (c : tie.After-put-figure4) → Wrote-so-far (c .before .befor
 unfolding figure word
 behind-resource c = run-on (omega (arith, c .before .before .before .before .before .before .before .before .before .before .before .before .before .before .before .before .before .before .before .before .pre)) (behind-job (c .before .before .before .before .before)) (figure-most (word " res ") (c .before .before .before .before .before .before .before .before .before .before .before .before .before .before .before .before .before .before .before .before .args .row .resource)) (c .put-figure4 .ensures)
 
--- src/line.rt:69:36
 slice-aggregate-put-figure : tie.Need-slice-aggregate-put-figure
 slice-aggregate-put-figure c = search needs
 
--- src/line.rt:69:9
 put-figure-requires : tie.Need-put-figure-requires
 put-figure-requires c κs = search needs
 
--- src/line.rt:70:39
 slice-aggregate-put-figure-2 : tie.Need-slice-aggregate-put-figure-2
 slice-aggregate-put-figure-2 c = search needs
 
--- src/line.rt:70:47
 response-requires : tie.Need-response-requires
 response-requires c κs = search needs
 
--- src/line.rt:70:9
 put-figure-requires-2 : tie.Need-put-figure-requires-2
 put-figure-requires-2 c κs = omega (arith, run-room 13 (omega (arith, c .before .before .before .before .before .before .before .before .before .pre)) (behind-jobs (c .before .before .before .before .before)))
 
--- src/line.rt:71:38
 slice-aggregate-put-figure-3 : tie.Need-slice-aggregate-put-figure-3
 slice-aggregate-put-figure-3 c = search needs
 
--- src/line.rt:71:9
 put-figure-requires-3 : tie.Need-put-figure-requires-3
 put-figure-requires-3 c κs = omega (arith, run-room 15 (omega (arith, c .before .before .before .before .before .before .before .before .before .before .before .before .before .before .pre)) (behind-worst (c .before .before .before .before)))
 
--- src/line.rt:72:41
 slice-aggregate-put-figure-4 : tie.Need-slice-aggregate-put-figure-4
 slice-aggregate-put-figure-4 c = search needs
 
--- src/line.rt:72:9
 put-figure-requires-4 : tie.Need-put-figure-requires-4
 put-figure-requires-4 c κs = omega (arith, run-room 15 (omega (arith, c .before .before .before .before .before .before .before .before .before .before .before .before .before .before .before .before .before .before .before .pre)) (behind-job (c .before .before .before .before)))
 
--- src/line.rt:73:5
 put-outcome-requires : tie.Need-put-outcome-requires
 put-outcome-requires c κs = omega (arith, run-room 6 (omega (arith, c .before .before .before .before .before .before .before .before .before .before .before .before .before .before .before .before .before .before .before .before .before .before .before .pre)) (behind-resource (c .before .before .before)))
 
--- src/line.rt:64:1
 same-length : tie.Need-same-length
 same-length c = search needs
 
--- src/line.rt:64:1
 returns : tie.Need-returns
 unfolding rowEnd
 returns c = run-on (omega (arith, c .before .before .before .before .before .before .before .before .before .before .before .before .before .before .before .before .before .before .before .before .before .before .before .before .before .before .pre)) (behind-resource (c .before .before .before .before .before .before)) (outcome-word-most (c .before .before .before .before .before .before .before .before .before .before .before .before .before .before .before .before .before .before .before .before .before .before .before .before .before .before .args .row .outcome)) (c .before .before .put-outcome .ensures) .writes

@@ -1,3 +1,4 @@
+-- `text::line::put_row_start` meets its contract. Assumes nothing.
 use native.Mathlib.Omega.{arith}
 use Prim.Native.Nat.{ℕ, _+_}
 use mathlib.Core.List.{List, _++_}
@@ -46,55 +47,42 @@ behind-blocking : (c : tie.After-put-figure3) → Wrote-so-far (c .before .befor
 unfolding figure word
 behind-blocking c = run-on (omega (arith, c .before .before .before .before .before .before .before .before .before .before .before .before .before .before .before .before .before .before .pre .1)) (behind-failing (c .before .before .before .before .before)) (figure-most (word " B ") (c .before .before .before .before .before .before .before .before .before .before .before .before .before .before .before .before .before .before .args .row .blocking)) (c .put-figure3 .ensures)
 
--- src/line.rt:56:38
 add-put-number : tie.Need-add-put-number
 add-put-number c = search needs
 
--- src/line.rt:56:37
 cast-put-number : tie.Need-cast-put-number
 cast-put-number c = search needs
 
--- src/line.rt:56:9
 put-number-requires : tie.Need-put-number-requires
 put-number-requires c κs = omega (arith, decimal-at-most-ten (c .before .before .args .s + 1), c .before .before .pre .1)
 
--- src/line.rt:57:42
 slice-aggregate-put-figure : tie.Need-slice-aggregate-put-figure
 slice-aggregate-put-figure c = search needs
 
--- src/line.rt:57:9
 put-figure-requires : tie.Need-put-figure-requires
 put-figure-requires c κs = omega (arith, run-room 13 (omega (arith, c .before .before .before .before .before .before .before .pre .1)) (behind-index (c .before .before .before .before)))
 
--- src/line.rt:58:44
 slice-aggregate-put-figure-2 : tie.Need-slice-aggregate-put-figure-2
 slice-aggregate-put-figure-2 c = search needs
 
--- src/line.rt:58:9
 put-figure-requires-2 : tie.Need-put-figure-requires-2
 put-figure-requires-2 c κs = omega (arith, run-room 17 (omega (arith, c .before .before .before .before .before .before .before .before .before .before .before .before .pre .1)) (behind-holding (c .before .before .before .before)))
 
--- src/line.rt:59:45
 slice-aggregate-put-figure-3 : tie.Need-slice-aggregate-put-figure-3
 slice-aggregate-put-figure-3 c = search needs
 
--- src/line.rt:59:9
 put-figure-requires-3 : tie.Need-put-figure-requires-3
 put-figure-requires-3 c κs = omega (arith, run-room 13 (omega (arith, c .before .before .before .before .before .before .before .before .before .before .before .before .before .before .before .before .before .pre .1)) (behind-failing (c .before .before .before .before)))
 
--- src/line.rt:60:31
 slice-aggregate-put-figure-4 : tie.Need-slice-aggregate-put-figure-4
 slice-aggregate-put-figure-4 c = search needs
 
--- src/line.rt:60:5
 put-figure-requires-4 : tie.Need-put-figure-requires-4
 put-figure-requires-4 c κs = omega (arith, run-room 13 (omega (arith, c .before .before .before .before .before .before .before .before .before .before .before .before .before .before .before .before .before .before .before .before .before .before .pre .1)) (behind-blocking (c .before .before .before .before)))
 
--- src/line.rt:52:1
 same-length : tie.Need-same-length
 same-length c = search needs
 
--- src/line.rt:52:1
 returns : tie.Need-returns
 unfolding rowStart figure word
 returns c = run-on (omega (arith, c .before .before .before .before .before .before .before .before .before .before .before .before .before .before .before .before .before .before .before .before .before .before .before .before .before .pre .1)) (behind-blocking (c .before .before .before .before .before .before .before)) (figure-most (word " L ") (c .before .before .before .before .before .before .before .before .before .before .before .before .before .before .before .before .before .before .before .before .before .before .before .before .before .args .row .active)) (c .before .before .put-figure4 .ensures) .writes

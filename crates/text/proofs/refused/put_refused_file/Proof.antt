@@ -1,3 +1,4 @@
+-- `text::refused::put_refused_file` meets its contract. Assumes nothing.
 use native.Mathlib.Omega.{arith}
 use Prim.Native.Nat.{ℕ, _+_}
 use mathlib.Core.List.{List, _++_}
@@ -31,43 +32,33 @@ behind-offset : (c : tie.After-put-figure2) → Wrote-so-far (c .before .before 
 unfolding figure word
 behind-offset c = run-on (omega (arith, c .before .before .before .before .before .before .before .before .before .before .before .pre .1)) (behind-number (c .before .before .before .before .before .before)) (figure-most (word " at ") (c .before .before .before .before .before .before .before .before .before .before .before .args .refusal .offset)) (c .put-figure2 .ensures)
 
--- src/refused.rt:45:38
 slice-aggregate-put-figure : tie.Need-slice-aggregate-put-figure
 slice-aggregate-put-figure c = search needs
 
--- src/refused.rt:45:51
 cast-put-figure : tie.Need-cast-put-figure
 cast-put-figure c = search needs
 
--- src/refused.rt:45:9
 put-figure-requires : tie.Need-put-figure-requires
 put-figure-requires c κs = search needs
 
--- src/refused.rt:46:42
 slice-aggregate-put-figure-2 : tie.Need-slice-aggregate-put-figure-2
 slice-aggregate-put-figure-2 c = search needs
 
--- src/refused.rt:46:51
 cast-put-figure-2 : tie.Need-cast-put-figure-2
 cast-put-figure-2 c = search needs
 
--- src/refused.rt:46:9
 put-figure-requires-2 : tie.Need-put-figure-requires-2
 put-figure-requires-2 c κs = omega (arith, run-room 14 (omega (arith, c .before .before .before .before .before .before .before .before .before .before .pre .1)) (behind-number (c .before .before .before .before .before)))
 
--- src/refused.rt:47:28
 slice-aggregate-put-bytes : tie.Need-slice-aggregate-put-bytes
 slice-aggregate-put-bytes c = search needs
 
--- src/refused.rt:47:5
 put-bytes-requires : tie.Need-put-bytes-requires
 put-bytes-requires c κs = omega (arith, run-room 1 (omega (arith, c .before .before .before .before .before .before .before .before .before .before .before .before .before .before .before .pre .1)) (behind-offset (c .before .before .before .before)))
 
--- src/refused.rt:41:1
 same-length : tie.Need-same-length
 same-length c = search needs
 
--- src/refused.rt:41:1
 returns : tie.Need-returns
 unfolding refusedFile word
 returns c = run-on {j = 1} (omega (arith, c .before .before .before .before .before .before .before .before .before .before .before .before .before .before .before .before .before .before .pre .1)) (behind-offset (c .before .before .before .before .before .before .before)) (omega arith) (wrote (c .before .before .put-bytes .ensures)) .writes

@@ -1,3 +1,4 @@
+-- `text::refused::put_refused_table` meets its contract. Assumes nothing.
 use native.Mathlib.Omega.{arith}
 use Prim.Native.Nat.{ℕ, _+_}
 use mathlib.Core.Path.{ap}
@@ -44,55 +45,42 @@ behind-task : (c : tie.After-put-figure3) → Wrote-so-far (c .before .before .b
 unfolding figure word
 behind-task c = run-on (omega (arith, c .before .before .before .before .before .before .before .before .before .before .before .before .before .before .before .before .before .pre)) (behind-subsystem (c .before .before .before .before .before .before)) (figure-most (word " ") (c .before .before .before .before .before .before .before .before .before .before .before .before .before .before .before .before .before .args .place .task)) (c .put-figure3 .ensures)
 
--- src/refused.rt:48:38
 slice-aggregate-put-figure : tie.Need-slice-aggregate-put-figure
 slice-aggregate-put-figure c = search needs
 
--- src/refused.rt:48:51
 rule-number-requires : tie.Need-rule-number-requires
 rule-number-requires c κs = search needs
 
--- src/refused.rt:48:9
 put-figure-requires : tie.Need-put-figure-requires
 put-figure-requires c κs = search needs
 
--- src/refused.rt:49:45
 slice-aggregate-put-figure-2 : tie.Need-slice-aggregate-put-figure-2
 slice-aggregate-put-figure-2 c = search needs
 
--- src/refused.rt:49:54
 cast-put-figure : tie.Need-cast-put-figure
 cast-put-figure c = search needs
 
--- src/refused.rt:49:9
 put-figure-requires-2 : tie.Need-put-figure-requires-2
 put-figure-requires-2 c κs = omega (arith, run-room 14 (omega (arith, c .before .before .before .before .before .before .before .before .before .before .pre)) (behind-number (c .before .before .before .before .before)))
 
--- src/refused.rt:50:43
 slice-aggregate-put-figure-3 : tie.Need-slice-aggregate-put-figure-3
 slice-aggregate-put-figure-3 c = search needs
 
--- src/refused.rt:50:49
 cast-put-figure-2 : tie.Need-cast-put-figure-2
 cast-put-figure-2 c = search needs
 
--- src/refused.rt:50:9
 put-figure-requires-3 : tie.Need-put-figure-requires-3
 put-figure-requires-3 c κs = omega (arith, run-room 11 (omega (arith, c .before .before .before .before .before .before .before .before .before .before .before .before .before .before .before .before .pre)) (behind-subsystem (c .before .before .before .before .before)))
 
--- src/refused.rt:51:26
 slice-aggregate-put-bytes : tie.Need-slice-aggregate-put-bytes
 slice-aggregate-put-bytes c = search needs
 
--- src/refused.rt:51:5
 put-bytes-requires : tie.Need-put-bytes-requires
 put-bytes-requires c κs = omega (arith, run-room 1 (omega (arith, c .before .before .before .before .before .before .before .before .before .before .before .before .before .before .before .before .before .before .before .before .before .pre)) (behind-task (c .before .before .before .before)))
 
--- src/refused.rt:44:1
 same-length : tie.Need-same-length
 same-length c = search needs
 
--- src/refused.rt:44:1
 returns : tie.Need-returns
 unfolding refusedTable word
 returns c = run-on {j = 1} (omega (arith, c .before .before .before .before .before .before .before .before .before .before .before .before .before .before .before .before .before .before .before .before .before .before .before .before .pre)) (behind-task (c .before .before .before .before .before .before .before)) (omega arith) (wrote (c .before .before .put-bytes .ensures)) .writes
