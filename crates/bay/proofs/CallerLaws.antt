@@ -23,8 +23,8 @@ use Rattle.stored.specs.Read.{readOf}
 use Rattle.stored.specs.Write.{written, writeOf, bufferAfter}
 use Rattle.stored.proofs.RoundTrips.{read-file-is-the-file}
 use Rattle.text.specs.Text.{textOf}
-use Rattle.text.specs.Room.{textRoom}
-use Rattle.text.specs.Shape.{LF}
+use Rattle.wording.specs.Room.{textRoom}
+use Rattle.wording.specs.Shape.{LF}
 use Rattle.text.proofs.BufferLaws.{length-is-answered}
 use Rattle.text.proofs.TextShape.{text-ends-in-LF}
 use Rattle.bay.specs.Judgement.{tableJudgement, judgementFor, judgementOf}

@@ -24,7 +24,7 @@ use stored::number::put_number;
 use table::Table;
 use table::grid::BLOCK;
 use table::grid::LINE;
-use text::response;
+use wording::response;
 
 // How many figures stand before the rows, and in a row.
 pub const HEAD_COUNT: usize = 5;

@@ -9,7 +9,7 @@ use lib.Dec.{ltb}
 use lib.ListN.{length}
 use Rattle.text.specs.declared.Printed.{Printed}
 use Rattle.text.specs.declared.Printed.the-variants.{Text, NoRoom}
-use Rattle.text.specs.Room.{textRoom}
+use Rattle.wording.specs.Room.{textRoom}
 use Rattle.text.specs.Text.{textOf, printedOf}
 use Rattle.text.proofs.TextShape.{text-most}
 

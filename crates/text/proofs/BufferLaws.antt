@@ -12,7 +12,7 @@ use Rattle.lines.specs.Written.{written}
 use Rattle.lines.proofs.WrittenLaws.{length-written}
 use Rattle.text.specs.declared.Printed.{Printed}
 use Rattle.text.specs.declared.Printed.the-variants.{Text, NoRoom}
-use Rattle.text.specs.Room.{textRoom}
+use Rattle.wording.specs.Room.{textRoom}
 use Rattle.text.specs.Text.{textOf, printedOf, leftBy, bufferAfter, IsPrinted}
 use Rattle.text.proofs.TextShape.{text-most}
 

@@ -1,12 +1,7 @@
--- Laws of writing one thing behind another, and of the lines.
-pub mod WroteLaws
-pub mod LineLaws
+-- Laws of the text: its lines one behind the other, its cases, its shape, and what a caller may rely on.
 pub mod RowsLaws
 pub mod ReportLaws
 pub mod TextLaws
 pub mod OffsetLaws
-pub mod ShapeLaws
-pub mod RowShape
 pub mod TextShape
 pub mod BufferLaws
-pub mod Examples

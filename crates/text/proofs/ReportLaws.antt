@@ -13,7 +13,7 @@ use Rattle.rules.specs.declared.Judged.{Judged}
 use Rattle.rules.specs.declared.Judged.the-variants.{Admitted, Refused}
 use Rattle.rules.specs.Refusal.{refusal}
 use Rattle.report.specs.declared.Report.{Report}
-use Rattle.text.specs.Lines.{refusedTable, verdict}
+use Rattle.wording.specs.Lines.{refusedTable, verdict}
 use Rattle.text.specs.Text.{slotLine, textFor, reportText}
 
 pub verdict-most : (accepted : Bool) → length (verdict accepted) ≤ 9

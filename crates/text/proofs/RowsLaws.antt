@@ -9,12 +9,12 @@ use Rattle.lists.proofs.UpTo.{joinTo-zero, joinTo-suc, joinTo-at-most}
 use Rattle.table.specs.Limits.{most}
 use Rattle.global.specs.declared.Row.{Row}
 use Rattle.report.specs.Report.{pastRows}
-use Rattle.text.specs.Wrote.{Wrote}
-use Rattle.text.specs.Lines.{rowLine}
+use Rattle.wording.specs.Wrote.{Wrote}
+use Rattle.wording.specs.Lines.{rowLine}
 use Rattle.text.specs.Text.{slotLine}
-use Rattle.text.specs.Room.{lineMost}
-use Rattle.text.proofs.WroteLaws.{Run, wrote-same, wrote-nothing, run-on, run-room, run-length}
-use Rattle.text.proofs.LineLaws.{rowLine-most}
+use Rattle.wording.specs.Room.{lineMost}
+use Rattle.wording.proofs.WroteLaws.{Run, wrote-same, wrote-nothing, run-on, run-room, run-length}
+use Rattle.wording.proofs.LineLaws.{rowLine-most}
 
 module _ (rows : List Row) where
   pub slotLine-most : (s : ℕ) → length (slotLine rows s) ≤ lineMost

@@ -25,10 +25,10 @@ use Rattle.stored.specs.Read.{fileRefusal, readOf}
 use Rattle.reader.specs.Reader.{IsHead}
 use Rattle.text.specs.declared.Printed.{Printed}
 use Rattle.text.specs.declared.Printed.the-variants.{Text, NoRoom}
-use Rattle.text.specs.Lines.{refusedFile}
-use Rattle.text.specs.Room.{textRoom}
+use Rattle.wording.specs.Lines.{refusedFile}
+use Rattle.wording.specs.Room.{textRoom}
 use Rattle.text.specs.Text.{reportText, tableText, readText, textOf, printedOf, leftBy, bufferAfter, IsPrinted}
-use Rattle.text.specs.Wrote.{Wrote}
+use Rattle.wording.specs.Wrote.{Wrote}
 
 ------------------------------------------------------------------------
 -- A table

@@ -26,15 +26,15 @@ use Rattle.stored.specs.Read.{fileRefusal, readOf}
 use Rattle.stored.proofs.LongInput.{first-bytes-suffice}
 use Rattle.lines.specs.Words.{word}
 use Rattle.lines.proofs.DecimalLaws.{decimal-at-most-ten}
-use Rattle.text.specs.Lines.{figure, refusedFile, refusedTable, verdict}
-use Rattle.text.specs.Room.{lineMost, textRoom}
-use Rattle.text.specs.Shape.{LF, AreWords, parted, line, Lines, no-line, one-more}
+use Rattle.wording.specs.Lines.{figure, refusedFile, refusedTable, verdict}
+use Rattle.wording.specs.Room.{lineMost, textRoom}
+use Rattle.wording.specs.Shape.{LF, AreWords, parted, line, Lines, no-line, one-more}
 use Rattle.text.specs.Text.{slotLine, textFor, reportText, tableText, readText, textOf}
 use Rattle.text.proofs.RowsLaws.{lines-most}
 use Rattle.text.proofs.ReportLaws.{verdict-most}
 use Rattle.text.proofs.TextLaws.{admitted-count}
-use Rattle.text.proofs.ShapeLaws.{refusedFileWords, refusedFile-line, refusedFile-words, refusedTableWords, refusedTable-line, refusedTable-words, verdictWords, verdict-line, verdict-words}
-use Rattle.text.proofs.RowShape.{rowWords, rowLine-line, rowLine-words}
+use Rattle.wording.proofs.ShapeLaws.{refusedFileWords, refusedFile-line, refusedFile-words, refusedTableWords, refusedTable-line, refusedTable-words, verdictWords, verdict-line, verdict-words}
+use Rattle.wording.proofs.RowShape.{rowWords, rowLine-line, rowLine-words}
 
 ------------------------------------------------------------------------
 -- Lines of words

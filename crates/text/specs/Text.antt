@@ -22,8 +22,8 @@ use Rattle.stored.specs.declared.ReadAnswer.the-variants.{Whole, Refused as Ref
 use Rattle.stored.specs.Read.{fileRefusal, readOf}
 use Rattle.text.specs.declared.Printed.{Printed}
 use Rattle.text.specs.declared.Printed.the-variants.{Text, NoRoom}
-use Rattle.text.specs.Lines.{refusedFile, refusedTable, verdict, rowLine}
-use Rattle.text.specs.Room.{textRoom}
+use Rattle.wording.specs.Lines.{refusedFile, refusedTable, verdict, rowLine}
+use Rattle.wording.specs.Room.{textRoom}
 
 -- The line of the row in slot s, which is that of the subsystem at index s.
 unfoldable pub slotLine : List Row → ℕ → List ℕ

@@ -7,13 +7,10 @@ ghost use Rattle.lists.specs.Range.{joinTo};
 ghost use Rattle.table.specs.Limits.{most};
 ghost use Rattle.table.specs.Grid.{systemIn, HasBlocks};
 ghost use Rattle.rules.specs.Rules.{countsJudged};
-ghost use Rattle.text.specs.Lines.{verdict};
-ghost use Rattle.text.specs.Room.{lineMost, textRoom};
+ghost use Rattle.wording.specs.Lines.{verdict};
+ghost use Rattle.wording.specs.Room.{lineMost, textRoom};
 ghost use Rattle.text.specs.Text.{slotLine, reportText, tableText, textOf, IsPrinted};
-ghost use Rattle.text.specs.Wrote.{Wrote};
-use crate::line::put_row;
-use crate::refused::put_refused_file;
-use crate::refused::put_refused_table;
+ghost use Rattle.wording.specs.Wrote.{Wrote};
 use global::Row;
 use lines::put_bytes;
 use numbers::index;
@@ -23,11 +20,9 @@ use stored::ReadAnswer;
 use table::Table;
 use table::grid::BLOCK;
 use table::grid::LINE;
-
-mod line;
-mod refused;
-
-pub use line::response;
+use wording::put_refused_file;
+use wording::put_refused_table;
+use wording::put_row;
 
 // The answer for a lent buffer. specs/Text.antt says when it is which, and what the buffer holds then.
 pub enum Printed {

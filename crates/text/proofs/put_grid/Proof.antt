@@ -1,6 +1,6 @@
 -- `text::put_grid` meets its contract. Assumes nothing.
 use borrow.Author.Needs.{needs}
-use Rattle.text.proofs.WroteLaws.{wrote-same}
+use Rattle.wording.proofs.WroteLaws.{wrote-same}
 use Rattle.text.proofs.TextLaws.{count-if-admitted, text-of-grid}
 use Rattle.text.proofs.put_grid.Statement.{statement}
 use Rattle.text.proofs.put_grid.Tie as tie

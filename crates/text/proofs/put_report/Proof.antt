@@ -3,9 +3,9 @@ use native.Mathlib.Omega.{arith}
 use Prim.Native.Nat.{_*_}
 use borrow.Author.Needs.{needs}
 use Rattle.table.specs.Limits.{most}
-use Rattle.text.specs.Lines.{verdict}
-use Rattle.text.specs.Room.{lineMost}
-use Rattle.text.proofs.WroteLaws.{Run, wrote-same, run-on, run-room}
+use Rattle.wording.specs.Lines.{verdict}
+use Rattle.wording.specs.Room.{lineMost}
+use Rattle.wording.proofs.WroteLaws.{Run, wrote-same, run-on, run-room}
 use Rattle.text.proofs.RowsLaws.{lines-most}
 use Rattle.text.proofs.ReportLaws.{verdict-most, text-of-refused, text-of-admitted}
 use Rattle.text.proofs.put_report.Statement.{statement}
@@ -14,7 +14,7 @@ use Rattle.text.proofs.put_report.Reads as reads
 use Rattle.text.proofs.put_report.Lts as lts
 use Rattle.text.proofs.put_rows.Reads as put-rows-reads
 use Rattle.text.proofs.put_verdict.Reads as put-verdict-reads
-use Rattle.text.proofs.refused.put_refused_table.Reads as put-refused-table-reads
+use Rattle.wording.proofs.put_refused_table.Reads as put-refused-table-reads
 
 behind-verdict : (c : tie.After-put-verdict) → Run (c .before .before .before .before .before .args .buf .now) 0 9 (verdict (c .before .before .before .before .before .args .report .accepted)) (c .put-verdict .last .0) (c .put-verdict .result)
 behind-verdict c = record { writes = c .put-verdict .ensures; small = verdict-most (c .before .before .before .before .before .args .report .accepted) }

@@ -8,7 +8,7 @@ use Rattle.text.proofs.put_rows.Statement.{statement}
 use Rattle.text.proofs.put_rows.Tie as tie
 use Rattle.text.proofs.put_rows.Reads as reads
 use Rattle.text.proofs.put_rows.Lts as lts
-use Rattle.text.proofs.line.put_row.Reads as put-row-reads
+use Rattle.wording.proofs.put_row.Reads as put-row-reads
 
 abbrev Inv-loop : tie.InvT-loop
 Inv-loop buf₀ at n rows next₀ s₀ buf next s = (s ≤ n) × RowsTo rows buf₀ at s buf next

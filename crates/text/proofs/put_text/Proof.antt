@@ -1,7 +1,7 @@
 -- `text::put_text` meets its contract. Assumes nothing.
 use borrow.Author.Needs.{needs}
 use native.Mathlib.Omega.{arith}
-use Rattle.text.proofs.WroteLaws.{wrote-same}
+use Rattle.wording.proofs.WroteLaws.{wrote-same}
 use Rattle.reader.proofs.WholeGrids.{grid-means-table, grid-counts-pass}
 use Rattle.text.proofs.OffsetLaws.{offset-fits}
 use Rattle.text.proofs.TextLaws.{text-of-refused-file, text-of-read-file}
@@ -13,7 +13,7 @@ use Rattle.numbers.proofs.index.Reads as index-reads
 use Rattle.stored.proofs.file_refusal.Reads as file-refusal-reads
 use Rattle.reader.proofs.read_grid.Reads as read-grid-reads
 use Rattle.text.proofs.put_grid.Reads as put-grid-reads
-use Rattle.text.proofs.refused.put_refused_file.Reads as put-refused-file-reads
+use Rattle.wording.proofs.put_refused_file.Reads as put-refused-file-reads
 
 read-grid-requires : tie.Need-read-grid-requires
 read-grid-requires c κs = search needs

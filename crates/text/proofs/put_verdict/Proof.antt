@@ -2,8 +2,8 @@
 use mathlib.Core.Path.{sym, ap}
 use borrow.Author.Needs.{needs}
 use Rattle.lines.specs.Words.{word}
-use Rattle.text.specs.Lines.{verdict}
-use Rattle.text.proofs.WroteLaws.{wrote, wrote-same}
+use Rattle.wording.specs.Lines.{verdict}
+use Rattle.wording.proofs.WroteLaws.{wrote, wrote-same}
 use Rattle.text.proofs.put_verdict.Statement.{statement}
 use Rattle.text.proofs.put_verdict.Tie as tie
 use Rattle.text.proofs.put_verdict.Reads as reads

@@ -10,8 +10,8 @@ use Rattle.global.specs.declared.Outcome.{Outcome}
 use Rattle.global.specs.declared.Outcome.the-variants.{Fits, Late, None}
 use Rattle.global.specs.declared.Row.{Row}
 use Rattle.global.specs.Row.{reported}
-use Rattle.text.specs.Lines.{figure, outcomeWord, rowStart, rowEnd, rowLine}
-use Rattle.text.specs.Room.{startMost, endMost, lineMost}
+use Rattle.wording.specs.Lines.{figure, outcomeWord, rowStart, rowEnd, rowLine}
+use Rattle.wording.specs.Room.{startMost, endMost, lineMost}
 
 -- A word and a number behind it.
 pub figure-most : (label : List ℕ) (n : ℕ) → length (label ++ decimal n) ≤ length label + 10

@@ -1,16 +1,16 @@
--- `text::line::put_row` meets its contract. Assumes nothing.
+-- `wording::line::put_row` meets its contract. Assumes nothing.
 use native.Mathlib.Omega.{arith}
 use borrow.Author.Needs.{needs}
-use Rattle.text.specs.Lines.{rowStart, rowLine}
-use Rattle.text.specs.Room.{startMost, endMost}
-use Rattle.text.proofs.WroteLaws.{Run, run-on, run-room}
-use Rattle.text.proofs.LineLaws.{rowStart-most, rowEnd-most}
-use Rattle.text.proofs.line.put_row.Statement.{statement}
-use Rattle.text.proofs.line.put_row.Tie as tie
-use Rattle.text.proofs.line.put_row.Reads as reads
-use Rattle.text.proofs.line.put_row.Lts as lts
-use Rattle.text.proofs.line.put_row_end.Reads as put-row-end-reads
-use Rattle.text.proofs.line.put_row_start.Reads as put-row-start-reads
+use Rattle.wording.specs.Lines.{rowStart, rowLine}
+use Rattle.wording.specs.Room.{startMost, endMost}
+use Rattle.wording.proofs.WroteLaws.{Run, run-on, run-room}
+use Rattle.wording.proofs.LineLaws.{rowStart-most, rowEnd-most}
+use Rattle.wording.proofs.line.put_row.Statement.{statement}
+use Rattle.wording.proofs.line.put_row.Tie as tie
+use Rattle.wording.proofs.line.put_row.Reads as reads
+use Rattle.wording.proofs.line.put_row.Lts as lts
+use Rattle.wording.proofs.line.put_row_end.Reads as put-row-end-reads
+use Rattle.wording.proofs.line.put_row_start.Reads as put-row-start-reads
 
 behind-start : (c : tie.After-put-row-start) → Run (c .before .before .before .args .buf .now) (c .before .before .before .args .at) startMost (rowStart (c .before .before .before .args .s) (c .before .before .before .args .row)) (c .put-row-start .last .0) (c .put-row-start .result)
 behind-start c = record { writes = c .put-row-start .ensures; small = rowStart-most (c .before .before .before .args .s) (c .before .before .before .args .row) }

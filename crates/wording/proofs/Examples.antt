@@ -4,7 +4,7 @@ use mathlib.Core.Bool.{true}
 use Rattle.lines.specs.Decimal.{digitByte, digits, decimal}
 use Rattle.lines.specs.Words.{word}
 use Rattle.global.specs.declared.Outcome.the-variants.{Fits}
-use Rattle.text.specs.Lines.{figure, refusedFile, refusedTable, verdict, rowStart, rowEnd, rowLine}
+use Rattle.wording.specs.Lines.{figure, refusedFile, refusedTable, verdict, rowStart, rowEnd, rowLine}
 
 -- Table A: its first row, its third, and the verdict.
 pub row-1-of-table-A :

@@ -1,4 +1,4 @@
--- `text::line::put_row_start` meets its contract. Assumes nothing.
+-- `wording::line::put_row_start` meets its contract. Assumes nothing.
 use native.Mathlib.Omega.{arith}
 use Prim.Native.Nat.{ℕ, _+_}
 use mathlib.Core.List.{List, _++_}
@@ -6,15 +6,15 @@ use borrow.Author.Needs.{needs}
 use Rattle.lines.specs.Decimal.{decimal}
 use Rattle.lines.specs.Words.{word}
 use Rattle.lines.proofs.DecimalLaws.{decimal-at-most-ten}
-use Rattle.text.specs.Lines.{figure, rowStart}
-use Rattle.text.proofs.WroteLaws.{Run, wrote, run-on, run-room}
-use Rattle.text.proofs.LineLaws.{figure-most}
-use Rattle.text.proofs.line.put_row_start.Statement.{statement}
-use Rattle.text.proofs.line.put_row_start.Tie as tie
-use Rattle.text.proofs.line.put_row_start.Reads as reads
-use Rattle.text.proofs.line.put_row_start.Lts as lts
+use Rattle.wording.specs.Lines.{figure, rowStart}
+use Rattle.wording.proofs.WroteLaws.{Run, wrote, run-on, run-room}
+use Rattle.wording.proofs.LineLaws.{figure-most}
+use Rattle.wording.proofs.line.put_row_start.Statement.{statement}
+use Rattle.wording.proofs.line.put_row_start.Tie as tie
+use Rattle.wording.proofs.line.put_row_start.Reads as reads
+use Rattle.wording.proofs.line.put_row_start.Lts as lts
 use Rattle.lines.proofs.put_number.Reads as put-number-reads
-use Rattle.text.proofs.line.put_figure.Reads as put-figure-reads
+use Rattle.wording.proofs.line.put_figure.Reads as put-figure-reads
 
 -- The run of writes so far, behind each figure.
 abbrev Wrote-so-far : tie.Start → ℕ → List ℕ → List ℕ → ℕ → Type 0

@@ -1,4 +1,4 @@
--- `text::line::put_row_end` meets its contract. Assumes nothing.
+-- `wording::line::put_row_end` meets its contract. Assumes nothing.
 use native.Mathlib.Omega.{arith}
 use Prim.Native.Nat.{ℕ, _+_}
 use mathlib.Core.Path.{ap}
@@ -6,17 +6,17 @@ use mathlib.Core.List.{List, _++_}
 use borrow.Author.Needs.{needs}
 use Rattle.lines.specs.Words.{word}
 use Rattle.global.specs.Row.{reported}
-use Rattle.text.specs.Wrote.{Wrote}
-use Rattle.text.specs.Lines.{figure, rowEnd}
-use Rattle.text.proofs.WroteLaws.{Run, wrote-same, run-on, run-room}
-use Rattle.text.proofs.LineLaws.{figure-most, outcome-word-most}
-use Rattle.text.proofs.line.put_row_end.Statement.{statement}
-use Rattle.text.proofs.line.put_row_end.Tie as tie
-use Rattle.text.proofs.line.put_row_end.Reads as reads
-use Rattle.text.proofs.line.put_row_end.Lts as lts
-use Rattle.text.proofs.line.put_figure.Reads as put-figure-reads
-use Rattle.text.proofs.line.put_outcome.Reads as put-outcome-reads
-use Rattle.text.proofs.line.response.Reads as response-reads
+use Rattle.wording.specs.Wrote.{Wrote}
+use Rattle.wording.specs.Lines.{figure, rowEnd}
+use Rattle.wording.proofs.WroteLaws.{Run, wrote-same, run-on, run-room}
+use Rattle.wording.proofs.LineLaws.{figure-most, outcome-word-most}
+use Rattle.wording.proofs.line.put_row_end.Statement.{statement}
+use Rattle.wording.proofs.line.put_row_end.Tie as tie
+use Rattle.wording.proofs.line.put_row_end.Reads as reads
+use Rattle.wording.proofs.line.put_row_end.Lts as lts
+use Rattle.wording.proofs.line.put_figure.Reads as put-figure-reads
+use Rattle.wording.proofs.line.put_outcome.Reads as put-outcome-reads
+use Rattle.wording.proofs.line.response.Reads as response-reads
 
 -- The run of writes so far, behind each figure.
 abbrev Wrote-so-far : tie.Start → ℕ → List ℕ → List ℕ → ℕ → Type 0

@@ -1,13 +1,13 @@
--- `text::line::put_outcome` meets its contract. Assumes nothing.
+-- `wording::line::put_outcome` meets its contract. Assumes nothing.
 use mathlib.Core.Path.{sym, ap}
 use borrow.Author.Needs.{needs}
 use Rattle.lines.specs.Words.{word}
-use Rattle.text.specs.Lines.{outcomeWord}
-use Rattle.text.proofs.WroteLaws.{wrote, wrote-same}
-use Rattle.text.proofs.line.put_outcome.Statement.{statement}
-use Rattle.text.proofs.line.put_outcome.Tie as tie
-use Rattle.text.proofs.line.put_outcome.Reads as reads
-use Rattle.text.proofs.line.put_outcome.Lts as lts
+use Rattle.wording.specs.Lines.{outcomeWord}
+use Rattle.wording.proofs.WroteLaws.{wrote, wrote-same}
+use Rattle.wording.proofs.line.put_outcome.Statement.{statement}
+use Rattle.wording.proofs.line.put_outcome.Tie as tie
+use Rattle.wording.proofs.line.put_outcome.Reads as reads
+use Rattle.wording.proofs.line.put_outcome.Lts as lts
 use Rattle.lines.proofs.put_bytes.Reads as put-bytes-reads
 
 enum-told : tie.Need-enum-told

@@ -7,7 +7,7 @@ use mathlib.Core.List.{List, [], _++_}
 use lib.ListN.{length, length-append}
 use Rattle.lines.specs.Written.{written}
 use Rattle.lines.proofs.WrittenLaws.{written-then, written-nothing, length-written}
-use Rattle.text.specs.Wrote.{Wrote}
+use Rattle.wording.specs.Wrote.{Wrote}
 
 -- What was written behind what was written is both.
 pub wrote-then :

@@ -15,8 +15,8 @@ use Rattle.lines.specs.Words.{word}
 use Rattle.lines.proofs.DecimalLaws.{digits-of-small, digits-of-large}
 use Rattle.rules.specs.Refusal.{Refusal}
 use Rattle.stored.specs.declared.FileRefusal.{FileRefusal}
-use Rattle.text.specs.Lines.{figure, refusedFile, refusedTable, verdict}
-use Rattle.text.specs.Shape.{space, LF, shown, IsWord, AreWords, last, more, parted, line}
+use Rattle.wording.specs.Lines.{figure, refusedFile, refusedTable, verdict}
+use Rattle.wording.specs.Shape.{space, LF, shown, IsWord, AreWords, last, more, parted, line}
 
 ------------------------------------------------------------------------
 -- Numbers are words

@@ -1,4 +1,4 @@
--- `text::refused::put_refused_table` meets its contract. Assumes nothing.
+-- `wording::refused::put_refused_table` meets its contract. Assumes nothing.
 use native.Mathlib.Omega.{arith}
 use Prim.Native.Nat.{ℕ, _+_}
 use mathlib.Core.Path.{ap}
@@ -6,15 +6,15 @@ use mathlib.Core.List.{List, _++_}
 use borrow.Author.Needs.{needs}
 use Rattle.lines.specs.Words.{word}
 use Rattle.rules.specs.Refusal.{numberOf}
-use Rattle.text.specs.Lines.{figure, refusedTable}
-use Rattle.text.proofs.WroteLaws.{Run, wrote, wrote-same, run-on, run-room}
-use Rattle.text.proofs.LineLaws.{figure-most}
-use Rattle.text.proofs.refused.put_refused_table.Statement.{statement}
-use Rattle.text.proofs.refused.put_refused_table.Tie as tie
-use Rattle.text.proofs.refused.put_refused_table.Reads as reads
-use Rattle.text.proofs.refused.put_refused_table.Lts as lts
+use Rattle.wording.specs.Lines.{figure, refusedTable}
+use Rattle.wording.proofs.WroteLaws.{Run, wrote, wrote-same, run-on, run-room}
+use Rattle.wording.proofs.LineLaws.{figure-most}
+use Rattle.wording.proofs.refused.put_refused_table.Statement.{statement}
+use Rattle.wording.proofs.refused.put_refused_table.Tie as tie
+use Rattle.wording.proofs.refused.put_refused_table.Reads as reads
+use Rattle.wording.proofs.refused.put_refused_table.Lts as lts
 use Rattle.lines.proofs.put_bytes.Reads as put-bytes-reads
-use Rattle.text.proofs.line.put_figure.Reads as put-figure-reads
+use Rattle.wording.proofs.line.put_figure.Reads as put-figure-reads
 use Rattle.rules.proofs.places.rule_number.Reads as rule-number-reads
 
 -- The run of writes so far, behind each figure.

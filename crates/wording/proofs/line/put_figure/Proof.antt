@@ -1,13 +1,13 @@
--- `text::line::put_figure` meets its contract. Assumes nothing.
+-- `wording::line::put_figure` meets its contract. Assumes nothing.
 use native.Mathlib.Omega.{arith}
 use mathlib.Core.Path.{_∙_}
 use Rattle.lines.proofs.DecimalLaws.{decimal-at-most-ten}
-use Rattle.text.proofs.WroteLaws.{wrote, wrote-then}
+use Rattle.wording.proofs.WroteLaws.{wrote, wrote-then}
 use borrow.Author.Needs.{needs}
-use Rattle.text.proofs.line.put_figure.Statement.{statement}
-use Rattle.text.proofs.line.put_figure.Tie as tie
-use Rattle.text.proofs.line.put_figure.Reads as reads
-use Rattle.text.proofs.line.put_figure.Lts as lts
+use Rattle.wording.proofs.line.put_figure.Statement.{statement}
+use Rattle.wording.proofs.line.put_figure.Tie as tie
+use Rattle.wording.proofs.line.put_figure.Reads as reads
+use Rattle.wording.proofs.line.put_figure.Lts as lts
 use Rattle.lines.proofs.put_bytes.Reads as put-bytes-reads
 use Rattle.lines.proofs.put_number.Reads as put-number-reads
 

@@ -9,9 +9,9 @@ use Rattle.global.specs.declared.Outcome.{Outcome}
 use Rattle.global.specs.declared.Outcome.the-variants.{Fits, Late, None}
 use Rattle.global.specs.declared.Row.{Row}
 use Rattle.global.specs.Row.{reported}
-use Rattle.text.specs.Lines.{figure, outcomeWord, rowStart, rowEnd, rowLine}
-use Rattle.text.specs.Shape.{space, LF, shown, IsWord, AreWords, last, more, parted, line}
-use Rattle.text.proofs.ShapeLaws.{number-is-word, one-word, parted-more, figure-behind, letters}
+use Rattle.wording.specs.Lines.{figure, outcomeWord, rowStart, rowEnd, rowLine}
+use Rattle.wording.specs.Shape.{space, LF, shown, IsWord, AreWords, last, more, parted, line}
+use Rattle.wording.proofs.ShapeLaws.{number-is-word, one-word, parted-more, figure-behind, letters}
 
 -- The outcome's own word.
 abbrev outcomeName : Outcome → List ℕ

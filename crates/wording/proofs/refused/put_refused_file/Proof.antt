@@ -1,18 +1,18 @@
--- `text::refused::put_refused_file` meets its contract. Assumes nothing.
+-- `wording::refused::put_refused_file` meets its contract. Assumes nothing.
 use native.Mathlib.Omega.{arith}
 use Prim.Native.Nat.{ℕ, _+_}
 use mathlib.Core.List.{List, _++_}
 use borrow.Author.Needs.{needs}
 use Rattle.lines.specs.Words.{word}
-use Rattle.text.specs.Lines.{figure, refusedFile}
-use Rattle.text.proofs.WroteLaws.{Run, wrote, run-on, run-room}
-use Rattle.text.proofs.LineLaws.{figure-most}
-use Rattle.text.proofs.refused.put_refused_file.Statement.{statement}
-use Rattle.text.proofs.refused.put_refused_file.Tie as tie
-use Rattle.text.proofs.refused.put_refused_file.Reads as reads
-use Rattle.text.proofs.refused.put_refused_file.Lts as lts
+use Rattle.wording.specs.Lines.{figure, refusedFile}
+use Rattle.wording.proofs.WroteLaws.{Run, wrote, run-on, run-room}
+use Rattle.wording.proofs.LineLaws.{figure-most}
+use Rattle.wording.proofs.refused.put_refused_file.Statement.{statement}
+use Rattle.wording.proofs.refused.put_refused_file.Tie as tie
+use Rattle.wording.proofs.refused.put_refused_file.Reads as reads
+use Rattle.wording.proofs.refused.put_refused_file.Lts as lts
 use Rattle.lines.proofs.put_bytes.Reads as put-bytes-reads
-use Rattle.text.proofs.line.put_figure.Reads as put-figure-reads
+use Rattle.wording.proofs.line.put_figure.Reads as put-figure-reads
 
 -- The run of writes so far, behind each figure.
 abbrev Wrote-so-far : tie.Start → ℕ → List ℕ → List ℕ → ℕ → Type 0
