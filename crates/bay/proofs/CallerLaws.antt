@@ -27,7 +27,7 @@ use Rattle.wording.specs.Room.{textRoom}
 use Rattle.wording.specs.Shape.{LF}
 use Rattle.text.proofs.BufferLaws.{length-is-answered}
 use Rattle.text.proofs.TextShape.{text-ends-in-LF}
-use Rattle.bay.specs.Judgement.{tableJudgement, judgementFor, judgementOf}
+use Rattle.offsets.specs.Judgement.{tableJudgement, judgementFor, judgementOf}
 use Rattle.bay.specs.Lent.{printedBy, textSize, rewriteOf, rewriteAfter}
 use Rattle.stored.proofs.WholeCounts.{read-counts-pass}
 

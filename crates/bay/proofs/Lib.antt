@@ -1,8 +1,4 @@
--- Laws of the definitions in specs/, by subject.
-pub mod Elements
-pub mod FigureLaws
-pub mod JudgementLaws
+-- Laws of what callers get.
 pub mod LentLaws
-pub mod CountLaws
 pub mod CallerLaws
 pub mod OffsetLaws

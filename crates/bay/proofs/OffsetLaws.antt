@@ -25,11 +25,11 @@ use Rattle.stored.specs.Judge.{faultNumber}
 use Rattle.stored.specs.Read.{readOf}
 use Rattle.stored.specs.Write.{written}
 use Rattle.stored.proofs.FileLaws.{length-numberBytes}
-use Rattle.bay.specs.Judgement.{tableJudgement}
-use Rattle.bay.specs.Figures.{rowFigures, headFigures, figures, counted, figuresOf, figuresIn}
-use Rattle.bay.specs.Lent.{headCount, rowCount, reportSize, lent, figuresAfter}
-use Rattle.bay.proofs.FigureLaws.{count-of-row}
-use Rattle.bay.proofs.CountLaws.{rows-are-eight, count-of-file-figures, length-of-file-figures}
+use Rattle.offsets.specs.Judgement.{tableJudgement}
+use Rattle.offsets.specs.Figures.{rowFigures, headFigures, figures, counted, figuresOf, figuresIn, headCount, rowCount, reportSize}
+use Rattle.bay.specs.Lent.{lent, figuresAfter}
+use Rattle.offsets.proofs.FigureLaws.{count-of-row}
+use Rattle.offsets.proofs.CountLaws.{rows-are-eight, count-of-file-figures, length-of-file-figures}
 
 ------------------------------------------------------------------------
 -- Parts of one length, joined

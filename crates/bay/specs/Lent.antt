@@ -1,26 +1,23 @@
 -- What a foreign caller gets: the number that each function returns, and what the lent buffer holds at the end.
 -- Assumes nothing.
-use Prim.Native.Nat.{ℕ, _+_, _*_}
+use Prim.Native.Nat.{ℕ}
 use mathlib.Core.Bool.{cond}
-use mathlib.Core.List.{List, [], _∷_, flatMap}
+use mathlib.Core.List.{List, flatMap}
 use lib.Dec.{ltb}
 use lib.ListN.{length}
-use Rattle.table.specs.Limits.{most}
 use Rattle.table.specs.Meaning.{System, meaning}
 use Rattle.stored.specs.declared.ReadAnswer.{ReadAnswer}
 use Rattle.stored.specs.declared.ReadAnswer.the-variants.{Whole, Refused}
 use Rattle.stored.specs.declared.WriteAnswer.{WriteAnswer}
 use Rattle.stored.specs.declared.WriteAnswer.the-variants.{Written, Uncounted, NoRoom}
-use Rattle.stored.specs.Numbers.{numberSize}
 use Rattle.stored.specs.File.{numberBytes}
 use Rattle.stored.specs.Read.{readOf}
 use Rattle.stored.specs.Write.{written, writeOf, bufferAfter}
 use Rattle.text.specs.declared.Printed.{Printed}
 use Rattle.text.specs.declared.Printed.the-variants.{Text, NoRoom as NoText}
 use Rattle.text.specs.Text.{printedOf}
-use Rattle.bay.specs.declared.Judgement.{Judgement}
-use Rattle.bay.specs.Judgement.{judgementOf}
-use Rattle.bay.specs.Figures.{figuresIn}
+use Rattle.offsets.specs.Judgement.{judgementOf, placeSize, placeBytes}
+use Rattle.offsets.specs.Figures.{figuresIn, reportSize}
 
 -- A buffer with bytes at its start and the rest as it was, or all as it was where it is shorter than `size`.
 unfoldable pub lent : ℕ → List ℕ → List ℕ → List ℕ
@@ -44,27 +41,11 @@ textSize file room = printedBy (printedOf file room)
 ------------------------------------------------------------------------
 -- The place of a judgement
 
-abbrev pub placeSize : ℕ
-placeSize = 2 * numberSize
-
-unfoldable pub placeBytes : Judgement → List ℕ
-placeBytes j = flatMap numberBytes (j .first ∷ j .second ∷ [])
-
 unfoldable pub placeAfter : List ℕ → List ℕ → List ℕ
 placeAfter file buf = lent placeSize (placeBytes (judgementOf file)) buf
 
 ------------------------------------------------------------------------
 -- The figures of a report
-
--- How many figures there are before the rows, and in a row.
-abbrev pub headCount : ℕ
-headCount = 5
-
-abbrev pub rowCount : ℕ
-rowCount = 9
-
-abbrev pub reportSize : ℕ
-reportSize = numberSize * (headCount + most * rowCount)
 
 unfoldable pub figuresAfter : List ℕ → List ℕ → List ℕ
 figuresAfter file buf = lent reportSize (flatMap numberBytes (figuresIn file)) buf

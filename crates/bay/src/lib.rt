@@ -4,29 +4,17 @@
 ghost use mathlib.Core.Path.{_≡_};
 ghost use lib.ListN.{length};
 ghost use Rattle.text.specs.Text.{bufferAfter};
-ghost use Rattle.bay.specs.Judgement.{judgementOf};
-ghost use Rattle.bay.specs.Lent.{printedBy, textSize, placeAfter, reportSize, filled, figuresAfter, putBy, rewriteOf, rewriteAfter};
+ghost use Rattle.offsets.specs.Judgement.{judgementOf};
+ghost use Rattle.bay.specs.Lent.{printedBy, textSize, placeAfter, filled, figuresAfter, putBy, rewriteOf, rewriteAfter};
+ghost use Rattle.offsets.specs.Figures.{reportSize};
+use offsets::PLACE_SIZE;
+use offsets::REPORT_SIZE;
+use offsets::figures::put_file;
+use offsets::figures::put_place;
+use offsets::judging::judge_file;
 use stored::ReadAnswer;
 use stored::WriteAnswer;
-use stored::number::NUMBER;
-use table::Table;
 use text::Printed;
-
-mod figures;
-mod judging;
-
-// What a file comes to: document 01's number and the two numbers of its place (offset and 0 for a file, subsystem and task
-// for a table); all 0 where the table is admitted.
-pub struct Judgement {
-    pub number: u32,
-    pub first: u32,
-    pub second: u32,
-}
-
-// How many bytes the two numbers of a place take, and the figures of a report.
-const PLACE_SIZE: usize = 2 * NUMBER;
-
-const REPORT_SIZE: usize = NUMBER * (figures::HEAD_COUNT + Table::MOST * figures::ROW_COUNT);
 
 // The text of a file goes to the start of the buffer, and the rest of the buffer stays. The result is the number of bytes of
 // the text, or 0 where the buffer is shorter than 2,048 bytes, which is then as it was.
@@ -45,11 +33,11 @@ pub extern "C" fn bay_judge(file: &[u8], place: &mut [u8]) -> u32
     ensures { λ r. ⌜ r ≡ judgementOf (now (file .entry)) .number ⌝ }
     ensures { λ _. ⌜ now (place .exit) ≡ placeAfter (now (file .entry)) (now (place .entry)) ⌝ }
 {
-    let j = judging::judge_file(file);
+    let j = judge_file(file);
     if place.len() < PLACE_SIZE {
         return j.number;
     }
-    figures::put_place(place, j);
+    put_place(place, j);
     j.number
 }
 
@@ -63,7 +51,7 @@ pub extern "C" fn bay_report(file: &[u8], buf: &mut [u8]) -> usize
     if buf.len() < REPORT_SIZE {
         return 0;
     }
-    figures::put_file(buf, file)
+    put_file(buf, file)
 }
 
 // A file is read, and its table written back to the start of the buffer; the rest of the buffer stays. The result is the

@@ -19,3 +19,4 @@ pub mod LongInput
 pub mod RoundTrips
 pub mod WholeCounts
 pub mod HeldLaws
+pub mod OffsetLaws

@@ -2,6 +2,5 @@
 pub mod RowsLaws
 pub mod ReportLaws
 pub mod TextLaws
-pub mod OffsetLaws
 pub mod TextShape
 pub mod BufferLaws

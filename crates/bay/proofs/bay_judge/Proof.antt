@@ -1,10 +1,11 @@
 -- `bay::bay_judge` meets its contract, for a buffer that is too short for the place and for one that is not. Assumes
 -- nothing.
 use mathlib.Core.Path.{ap, _∙_}
-use Rattle.bay.specs.declared.Judgement.{Judgement}
-use Rattle.bay.specs.Lent.{lent, placeSize, placeBytes, placeAfter}
+use Rattle.offsets.specs.declared.Judgement.{Judgement}
+use Rattle.bay.specs.Lent.{lent, placeAfter}
+use Rattle.offsets.specs.Judgement.{placeSize, placeBytes}
 use Rattle.bay.proofs.LentLaws.{too-short, long-enough}
-use Rattle.bay.proofs.FigureLaws.{length-placeBytes}
+use Rattle.offsets.proofs.FigureLaws.{length-placeBytes}
 use borrow.Author.Needs.{needs}
 use Rattle.bay.proofs.bay_judge.Statement.{statement}
 use Rattle.bay.proofs.bay_judge.Tie as tie

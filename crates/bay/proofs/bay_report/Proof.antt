@@ -1,10 +1,10 @@
 -- `bay::bay_report` meets its contract, for a buffer that is too short and for one that is not. Assumes nothing.
 use mathlib.Core.List.{flatMap}
 use Rattle.stored.specs.File.{numberBytes}
-use Rattle.bay.specs.Figures.{figuresIn}
-use Rattle.bay.specs.Lent.{reportSize, figuresAfter}
+use Rattle.offsets.specs.Figures.{figuresIn, reportSize}
+use Rattle.bay.specs.Lent.{figuresAfter}
 use Rattle.bay.proofs.LentLaws.{too-short, long-enough}
-use Rattle.bay.proofs.CountLaws.{length-of-file-figures}
+use Rattle.offsets.proofs.CountLaws.{length-of-file-figures}
 use borrow.Author.Needs.{needs}
 use Rattle.bay.proofs.bay_report.Statement.{statement}
 use Rattle.bay.proofs.bay_report.Tie as tie

@@ -3,7 +3,7 @@ use borrow.Author.Needs.{needs}
 use native.Mathlib.Omega.{arith}
 use Rattle.wording.proofs.WroteLaws.{wrote-same}
 use Rattle.reader.proofs.WholeGrids.{grid-means-table, grid-counts-pass}
-use Rattle.text.proofs.OffsetLaws.{offset-fits}
+use Rattle.stored.proofs.OffsetLaws.{offset-fits}
 use Rattle.text.proofs.TextLaws.{text-of-refused-file, text-of-read-file}
 use Rattle.text.proofs.put_text.Statement.{statement}
 use Rattle.text.proofs.put_text.Tie as tie
