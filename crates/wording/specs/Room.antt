@@ -11,6 +11,6 @@ endMost = 80
 abbrev pub lineMost : ℕ
 lineMost = startMost + endMost
 
--- What a buffer must hold: the verdict's line and eight rows take no more (proofs/TextShape.antt, text-most).
+-- What a buffer must hold: the verdict's line and eight rows take no more (text/proofs/TextShape.antt, text-most).
 abbrev pub textRoom : ℕ
 textRoom = 2048
