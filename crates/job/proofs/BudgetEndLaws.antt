@@ -52,12 +52,20 @@ module _ (v : View) (sv : Sound-view v) where
   budget-floor k =
       stands-at-floor (budgetTotal v k) (omega (arith, sv .budget-pos, ahead-holds-budget v k)) (λ y l. omega (arith, budget-total v k y))
 
+  -- Where `more` ticks more are to be done besides the higher subsystems, a search may start that much further on.
+  pub stands-more :
+      (a b more : ℕ) {end : ℕ} → b ≡ a + more → IsLeast (total (v .periods) (v .costs) (v .place) a) end →
+      Stands (total (v .periods) (v .costs) (v .place) b) (end + more)
+  unfolding total
+  stands-more a b more {end} e i =
+      stands-warm (total (v .periods) (v .costs) (v .place) a) (total (v .periods) (v .costs) (v .place) b) more
+      (least-stands (total (v .periods) (v .costs) (v .place) a) i)
+      (λ y h. omega (arith, e))
+      (λ y h. omega (arith, e, i .solution, demand-mono (v .periods) (v .costs) (v .place) (higher-loads v sv) h))
+
   -- The next job's search may start Q + X after the end of job k's budget.
   pub stands-after : (k : ℕ) {end : ℕ} → IsLeast (budgetTotal v k) end → Stands (budgetTotal v (k + 1)) (end + cost v)
-  stands-after k {end} i =
-      stands-warm (budgetTotal v k) (budgetTotal v (k + 1)) (cost v) (least-stands (budgetTotal v k) i)
-      (λ y h. omega (arith, budget-total v k y, budget-total v (k + 1) y, ahead-next v k))
-      (λ y h. omega (arith, budget-total v (k + 1) y, ahead-next v k, i .solution, budget-total v k end, demand-mono (v .periods) (v .costs) (v .place) (higher-loads v sv) h))
+  stands-after k i = stands-more (ahead v k) (ahead v (k + 1)) (cost v) (ahead-next v k) i
 
   module _ {k : ℕ} (ct : Counted v k) where
     -- The jobs before k take less than the active period.

@@ -25,7 +25,7 @@ use Rattle.job.specs.View.{View, cost}
 use Rattle.job.specs.Ends.{activePeriod, ahead, budgetEnd}
 use Rattle.job.specs.Sound.{Sound-view, Counted, First-end, Active}
 use Rattle.job.proofs.ActiveLaws.{budget-at-most, period-pos, higher-loads, activeTotal, active-total, active-within, some-job}
-use Rattle.job.proofs.BudgetEndLaws.{budgetTotal, budget-total, ahead-next, budget-floor, budget-end-is-least, budget-end-within, budget-comes-down, budget-found, stands-after}
+use Rattle.job.proofs.BudgetEndLaws.{budgetTotal, budget-total, ahead-next, budget-floor, budget-end-is-least, budget-end-within, budget-comes-down, budget-found, stands-more}
 
 -- What the first m of n loads leave free.
 pub frees-fewer : {periods costs frees : List ℕ} {n : ℕ} (m : ℕ) → Frees periods costs frees n → m ≤ n → Frees periods costs frees m
@@ -67,20 +67,30 @@ module _ (v : View) (sv : Sound-view v) where
   pub first-small : v .blocking + v .budget < 2 ^ 25
   first-small = omega (arith, sv .blocking-small, budget-at-most v, sv .fits, sv .period-small)
 
-  -- From the end of job k's budget: what is still waited for is what job k + 1 waits for.
-  module _ (k : ℕ) {end : ℕ} (i : IsLeast (budgetTotal v k) end) where
-    pub left-after : afterwards (v .periods) (v .costs) (v .place) end (cost v) ≡ ahead v (k + 1)
-    left-after = omega (arith, i .solution, budget-total v k end, ahead-next v k)
+  -- From where one search has ended on with `more` ticks more: what is still waited for, and that a search may go on from there.
+  module _ (a b more : ℕ) {end : ℕ} (e : b ≡ a + more) (i : IsLeast (total (v .periods) (v .costs) (v .place) a) end) where
+    pub left-more : afterwards (v .periods) (v .costs) (v .place) end more ≡ b
+    unfolding total
+    left-more = omega (arith, e, i .solution)
 
-    pub waits-after : end ≤ horizon → Waits (v .periods) (v .costs) (v .place) end (cost v)
-    waits-after h =
+    pub waits-more : end ≤ horizon → more ≤ cost v → Waits (v .periods) (v .costs) (v .place) end more
+    unfolding total
+    waits-more h small =
         record {
           fit = higher-fit;
           few = omega (arith, sv .few);
-          asked = omega (arith, i .solution, budget-total v k end);
-          stands = rw left-after (stands-after v sv k i);
-          small = omega (arith, h, sv .fits, sv .period-small);
+          asked = omega (arith, i .solution);
+          stands = rw left-more (stands-more v sv a b more e i);
+          small = omega (arith, h, small, sv .fits, sv .period-small);
         }
+
+  -- From the end of job k's budget: what is still waited for is what job k + 1 waits for.
+  module _ (k : ℕ) {end : ℕ} (i : IsLeast (budgetTotal v k) end) where
+    pub left-after : afterwards (v .periods) (v .costs) (v .place) end (cost v) ≡ ahead v (k + 1)
+    left-after = left-more (ahead v k) (ahead v (k + 1)) (cost v) (ahead-next v k) i
+
+    pub waits-after : end ≤ horizon → Waits (v .periods) (v .costs) (v .place) end (cost v)
+    waits-after h = waits-more (ahead v k) (ahead v (k + 1)) (cost v) (ahead-next v k) i h (omega arith)
 
   module _ {k : ℕ} (ct : Counted v k) where
     pub next-ahead : afterwards (v .periods) (v .costs) (v .place) (budgetEnd v k) (cost v) ≡ ahead v (k + 1)
