@@ -1,2 +1,3 @@
--- The row.
+-- The row, and jobs that end when they are done.
 pub mod Row
+pub mod Done

@@ -1,9 +1,11 @@
 // The row of a subsystem.
 use crate::Outcome;
 use crate::Row;
+use crate::budgets::lone_on_the_way;
 use crate::budgets::nearly_all;
 use crate::budgets::on_the_way;
-use crate::budgets::row_by_budgets;
+use crate::budgets::row_alone;
+use crate::budgets::row_by_jobs;
 use job::Own;
 use least::round_up;
 use least::spare_of;
@@ -159,9 +161,9 @@ fn active_from(
 }
 
 // The row from what the subsystem has before it. Only the first `fits` subsystems ask for no more than every tick has; for one
-// behind them nothing is searched. Else the first budget end is, and the active period from there; where nothing is held that is found
-// on the way from job to job, unless the first budget ends many periods late: then one search passes over them all, and tells whether
-// most jobs are settled early.
+// behind them nothing is searched. Else the first budget end is, and the active period from there; where nothing is held, or one
+// resource alone, that is found on the way from job to job, unless the first budget ends many periods late: then one search passes over
+// them all, and tells whether most jobs are settled early.
 fn row_seen(
     periods: &[u32],
     costs: &[u32],
@@ -198,6 +200,21 @@ fn row_seen(
     if Table::HORIZON < first {
         return row_without(own, cost, failing);
     }
+    let lone = lone_on_the_way(holdings, ceilings, own, cost, first);
+    if lone != 0 {
+        return row_alone(
+            periods,
+            costs,
+            frees,
+            holdings,
+            ceilings,
+            own,
+            failing,
+            first,
+            ends,
+            lone,
+        );
+    }
     if !on_the_way(own, cost, first) {
         let active = active_from(periods, costs, frees, holdings, ceilings, own, first, ends);
         if Table::HORIZON < active {
@@ -218,7 +235,7 @@ fn row_seen(
             );
         }
     }
-    row_by_budgets(
+    row_by_jobs(
         periods,
         costs,
         frees,
@@ -228,6 +245,7 @@ fn row_seen(
         failing,
         first,
         ends,
+        0,
     )
 }
 

@@ -1,4 +1,4 @@
--- `global::budgets::row_by_budgets` meets its contract. The loop's invariant: job k's budget ends at `end`, no job before it was over by
+-- `global::budgets::row_by_jobs` meets its contract. The loop's invariant: job k is done at `end`, no job before it was done by
 -- the next one's release, and the worst so far is that of the first k + 1 jobs. Assumes nothing.
 use Prim.Native.Nat.{ℕ, _+_, _-_, _*_, _≤_, _<_}
 use native.Mathlib.Nat.{mul-le-mul-left, suc-mul}
@@ -7,23 +7,22 @@ use native.Mathlib.Omega.{arith}
 use mathlib.Core.Path.{_≡_, sym, ap, _∙_}
 use borrow.Author.Needs.{needs}
 use Rattle.table.specs.Limits.{horizon}
-use Rattle.job.specs.View.{View, overrun}
+use Rattle.job.specs.View.{View}
 use Rattle.global.specs.Row.{rowFor}
 use Rattle.job.specs.Computed.{seenBy, worstOf}
 use Rattle.job.proofs.ActiveLaws.{period-pos}
 use Rattle.job.proofs.BestLaws.{worst-first, worst-step}
-use Rattle.job.proofs.ResponseLaws.{no-overrun}
-use Rattle.global.proofs.RowLaws.{row-with, row-without}
+use Rattle.global.proofs.RowLaws.{budget-below, overrun-computed, row-with, row-without}
 use Rattle.global.proofs.OnTheWayLaws.{Reached, reached-first, job-reached, last-job, active-reached, next-after, reached-next, nothing-reached}
-use Rattle.global.proofs.budgets.row_by_budgets.Statement.{statement}
-use Rattle.global.proofs.budgets.row_by_budgets.Tie as tie
+use Rattle.global.proofs.budgets.row_by_jobs.Statement.{statement}
+use Rattle.global.proofs.budgets.row_by_jobs.Tie as tie
 
 abbrev Inv-loop : tie.InvT-loop
-Inv-loop periods costs frees holdings ceilings own failing first s more worst₀ ends₀ end₀ k₀ release₀ worst ends end k release =
+Inv-loop periods costs frees holdings ceilings own failing first resource s more worst₀ ends₀ end₀ k₀ release₀ worst ends end k release =
     Reached (seenBy periods costs holdings ceilings own) k end ends × (release ≡ (k + 1) * own .period) × (worst ≡ worstOf (seenBy periods costs holdings ceilings own) (k + 1))
 
 abbrev μ-loop : tie.MeasureT-loop
-μ-loop periods costs frees holdings ceilings own failing first s more worst₀ ends₀ end₀ k₀ release₀ worst ends end k release =
+μ-loop periods costs frees holdings ceilings own failing first resource s more worst₀ ends₀ end₀ k₀ release₀ worst ends end k release =
     horizon + 1 - k
 
 -- What the arguments say.
@@ -31,13 +30,10 @@ module _ (s : tie.Start Inv-loop μ-loop) where
   abbrev view : View
   view = seenBy (s .args .periods .now) (s .args .costs .now) (s .args .holdings .now) (s .args .ceilings .now) (s .args .own)
 
-  nothing : overrun view ≡ 0
-  nothing = no-overrun view (s .pre .0) (s .pre .1 .0)
-
 -- At the loop's head.
 module _ (l : tie.At-loop Inv-loop μ-loop) where
   abbrev entry : tie.Start Inv-loop μ-loop
-  entry = l .before .before .before .before .before .before
+  entry = l .before .before .before .before .before .before .before
 
   few-jobs : l .loop .k ≤ horizon
   few-jobs =
@@ -58,23 +54,31 @@ next : (c : tie.Else1 Inv-loop μ-loop) → ((at (c .before .before .before) .lo
 next c =
     let i = c .before .before .before in
     let s = entry (at i) in
-    let r = reached-next (view s) (s .pre .0) (nothing s) (at i .loop .inv .0) (late i) (c .before .least-after .ensures .0) (c .if1 .left) (c .before .least-after .ensures .1) in
+    let r = reached-next (view s) (s .pre .0) (at i .loop .inv .0) (late i) (c .before .least-after .ensures .0) (c .if1 .left) (c .before .least-after .ensures .1) in
     (r .released, r .within)
+
+mul-more : tie.Need-mul-more Inv-loop μ-loop
+mul-more c = search needs
+
+shared-slice-read-more : tie.Need-shared-slice-read-more Inv-loop μ-loop
+shared-slice-read-more c = search needs
 
 loop-holds : tie.Need-loop-holds Inv-loop μ-loop
 loop-holds c =
-    let s = c .before .before .before .before .before in
+    let s = c .before .before .before .before .before .before in
     let r = reached-first (view s) (s .pre .1 .1 .0) in
-    (r, omega arith, worst-first (view s) (job-reached (view s) (s .pre .0) (nothing s) r (omega arith)))
+    (r, omega arith, worst-first (view s) (job-reached (view s) (s .pre .1 .0) r (omega arith)))
 
 least-after-requires : tie.Need-least-after-requires Inv-loop μ-loop
 least-after-requires c κs =
     let i = c .before in
     let s = entry (at i) in
-    (next-after (view s) (s .pre .0) (nothing s) (at i .loop .inv .0) (late i) (s .pre .1 .1 .1), omega arith)
+    (next-after (view s) (s .pre .0) (at i .loop .inv .0) (late i) (s .pre .1 .1 .1), omega arith)
 
 row-without-requires : tie.Need-row-without-requires Inv-loop μ-loop
-row-without-requires c κs = omega arith
+row-without-requires c κs =
+    let s = entry (at (c .before .before .before)) in
+    budget-below (view s) (s .pre .0)
 
 returns : tie.Need-returns Inv-loop μ-loop
 returns c =
@@ -82,7 +86,7 @@ returns c =
     let i = g .before .before in
     let s = entry (at i) in
     c .row-without .ensures ∙
-    row-without (view s) (s .args .failing) (omega (arith, nothing s)) (nothing-reached (view s) (s .pre .0) (nothing s) (at i .loop .inv .0) (late i) (g .least-after .ensures .0) (c .before .if1 .taken))
+    row-without (view s) (s .args .failing) (overrun-computed (view s) (s .pre .0)) (nothing-reached (view s) (s .pre .0) (at i .loop .inv .0) (late i) (g .least-after .ensures .0) (c .before .if1 .taken))
 
 add-k : tie.Need-add-k Inv-loop μ-loop
 add-k c = record { fits = omega (arith, few-jobs (at (c .before .before .before))) }
@@ -109,34 +113,41 @@ loop-again c =
     let s = entry l in
     let k = l .loop .k in
     let p = s .args .own .period in
-    let r = reached-next (view s) (s .pre .0) (nothing s) (l .loop .inv .0) (late (e .before .before .before)) (e .before .least-after .ensures .0) (e .if1 .left) (e .before .least-after .ensures .1) in
+    let r = reached-next (view s) (s .pre .0) (l .loop .inv .0) (late (e .before .before .before)) (e .before .least-after .ensures .0) (e .if1 .left) (e .before .least-after .ensures .1) in
     let after : (k + 1 + 1) * p ≡ (k + 1) * p + p = rw (add-one (k + 1)) (omega (arith, suc-mul (k + 1) p)) in (
       r,
       omega (arith, l .loop .inv .1, after),
-      worst-step (view s) (k + 1) (l .loop .inv .2) (job-reached (view s) (s .pre .0) (nothing s) r (omega (arith, l .loop .inv .1))) (c .before .worse .ensures),
+      worst-step (view s) (k + 1) (l .loop .inv .2) (job-reached (view s) (s .pre .1 .0) r (omega (arith, l .loop .inv .1))) (c .before .worse .ensures),
     )
 
-add-t21 : tie.Need-add-t21 Inv-loop μ-loop
-add-t21 c = record { fits = omega (arith, few-jobs (c .before)) }
+sub-t22 : tie.Need-sub-t22 Inv-loop μ-loop
+sub-t22 c =
+    let s = entry (c .before .before) in
+    budget-below (view s) (s .pre .0)
+
+add-t25 : tie.Need-add-t25 Inv-loop μ-loop
+add-t25 c = record { fits = omega (arith, few-jobs (c .before .before)) }
 
 judge-requires : tie.Need-judge-requires Inv-loop μ-loop
 judge-requires c κs = search needs
 
 returns-2 : tie.Need-returns-2 Inv-loop μ-loop
 returns-2 c =
-    let l = c .before .before in
+    let l = c .before .before .before in
     let s = entry l in
     let r = l .loop .inv .0 in
-    let over : l .loop .end ≤ (l .loop .k + 1) * s .args .own .period = omega (arith, c .before .loop-test .left, l .loop .inv .1) in
-    row-with (view s) (s .args .failing) (l .loop .end) (omega (arith, nothing s)) (last-job (view s) (s .pre .0) (nothing s) r over) (l .loop .inv .2) (c .judge .ensures) ∙
-    ap (rowFor (view s) (s .args .failing)) (sym (active-reached (view s) (s .pre .0) (nothing s) r over))
+    let over : l .loop .end ≤ (l .loop .k + 1) * s .args .own .period = omega (arith, c .before .before .loop-test .left, l .loop .inv .1) in
+    row-with (view s) (s .args .failing) (l .loop .end) (overrun-computed (view s) (s .pre .0)) (last-job (view s) (s .pre .0) r over) (l .loop .inv .2) (c .judge .ensures) ∙
+    ap (rowFor (view s) (s .args .failing)) (sym (active-reached (view s) (s .pre .0) r over))
 
-pub row-by-budgets-spec : {M : Type 1} → statement M
-row-by-budgets-spec =
+pub row-by-jobs-spec : {M : Type 1} → statement M
+row-by-jobs-spec =
     tie.close
     (tie.spec
     Inv-loop
     μ-loop
+    mul-more
+    shared-slice-read-more
     loop-holds
     least-after-requires
     row-without-requires
@@ -147,6 +158,7 @@ row-by-budgets-spec =
     add-release
     loop-less
     loop-again
-    add-t21
+    sub-t22
+    add-t25
     judge-requires
     returns-2)
