@@ -8,7 +8,7 @@ ghost use Prim.Native.Nat.{_≤_};
 ghost use Rattle.table.specs.Limits.{most};
 use asked::JobEnd;
 use asked::job_end;
-use global::Row;
+use row::Row;
 use numbers::wide;
 use report::Report;
 use table::Subsystem;

@@ -1,7 +1,7 @@
 // Figures as lines on standard output: a name, then the value or the values.
 ghost use mathlib.Core.Path.{_≡_};
-use global::Outcome;
-use global::Row;
+use row::Outcome;
+use row::Row;
 use libc::STDOUT_FILENO;
 use rules::Judged;
 use rules::places::rule_number;

@@ -1,7 +1,2 @@
--- Laws of rows, and of the active period found on the way from job to job.
-pub mod DoneLaws
-pub mod OnTheWayLaws
-pub mod RowLaws
-pub mod LedLaws
+-- What a row of a subsystem has to do with what the subsystem sees.
 pub mod SeenLaws
-pub mod RowMeaning

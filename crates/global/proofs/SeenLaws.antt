@@ -16,15 +16,15 @@ use Rattle.outer.specs.Leading.{beats, beatenBy, unbeaten, led, ceilingAt}
 use Rattle.outer.specs.Sound.{Sound}
 use Rattle.outer.proofs.Slots.{resources-of, period-of-slot, budget-of-slot, holding-of-slot}
 use Rattle.outer.proofs.CommonLaws.{take-padded}
-use Rattle.global.specs.declared.Row.{Row}
+use Rattle.row.specs.declared.Row.{Row}
 use Rattle.job.specs.declared.Own.{Own}
 use Rattle.job.specs.View.{View, viewOf, resources, held, ceiling}
 use Rattle.job.specs.Ends.{activePeriod}
-use Rattle.global.specs.Row.{rowFor, rowOf}
+use Rattle.row.specs.Row.{rowFor, rowOf}
 use Rattle.job.specs.Computed.{seenBy}
 use Rattle.job.specs.Sound.{Sound-view}
 use Rattle.job.proofs.ViewLaws.{view-sound, resources-seen, held-seen, ceiling-seen}
-use Rattle.global.proofs.LedLaws.{ledView, led-sound, row-led}
+use Rattle.row.proofs.LedLaws.{ledView, led-sound, row-led}
 
 -- Which resources lead depends on the resources in use alone.
 led-ext : (h h2 c c2 : ℕ → ℕ) (m l : ℕ) → l < m → ((j : ℕ) → j < m → h j ≡ h2 j) → ((j : ℕ) → j < m → c j ≡ c2 j) → led h c m l ≡ led h2 c2 m l

@@ -1,27 +1,265 @@
-// Rows over interfaces alone: the active period (step 7), and with crate `responses` what comes of its jobs (steps 8 to 11).
+// Rows over interfaces alone: the active period (step 7), and with crates `done` and `responses` what comes of its jobs (steps 8 to 11).
 // Interfaces, their outer ceilings and blocking are crate `outer`'s; crate `ends` asks about single jobs. Every function here
 // is proved, and the crate assumes nothing. Indices count from 0; document 01 counts from 1.
-mod budgets;
-mod rows;
+use done::lone_on_the_way;
+use done::nearly_all;
+use done::on_the_way;
+use done::row_alone;
+use done::row_by_jobs;
+use job::Own;
+use least::round_up;
+use least::spare_of;
+use least::standing;
+use outer::interfaces::WIDTH;
+use outer::interfaces::budget;
+use outer::interfaces::period;
+use outer::leading::leading;
+use responses::largest_response;
+use row::Row;
+use row::judge;
+use row::row_without;
+use search::least_after;
+use table::Table;
+ghost use mathlib.Core.Path.{_≡_};
+ghost use mathlib.Core.Option.{none, some};
+ghost use Rattle.least.specs.Demand.{total};
+ghost use Rattle.least.specs.Search.{Loads, reach, Starts};
+ghost use Rattle.search.specs.After.{Frees};
+ghost use Rattle.table.specs.Limits.{most};
+ghost use Rattle.least.specs.Share.{Fitting};
+ghost use Prim.Native.Nat.{ℕ, _+_, _-_, _≤_, _<_};
+ghost use Rattle.outer.specs.Interfaces.{interfacesIn};
+ghost use Rattle.row.specs.declared.Outcome.the-variants.{None};
+ghost use Rattle.job.specs.Ends.{activePeriod};
+ghost use Rattle.row.specs.Row.{judged, rowFor, rowOf};
+ghost use Rattle.outer.specs.Blocking.{blocking};
+ghost use Rattle.outer.specs.Common.{Lent};
+ghost use Rattle.job.specs.Computed.{seenBy};
+ghost use Rattle.outer.specs.Sound.{Sound};
+ghost use Rattle.job.specs.Sound.{Sound-view, First-end, Active};
 
-pub use rows::row_of;
-
-// How a row ends: with its response R within the period, or beyond it, or with none.
-pub enum Outcome {
-    Fits(u32),
-    Late(u32),
-    None,
+// The row with an active period.
+fn active_row(
+    periods: &[u32],
+    costs: &[u32],
+    frees: &[u32],
+    holdings: &[u32],
+    ceilings: &[usize],
+    own: Own,
+    failing: u32,
+    active: u32,
+    first: u32,
+    ends: [u32; Table::MOST],
+) -> Row
+    requires { ⌜ Sound-view (seenBy (now periods) (now costs) (now holdings) (now ceilings) own) ⌝ }
+    requires { ⌜ activePeriod (seenBy (now periods) (now costs) (now holdings) (now ceilings) own) ≡ some active ⌝ }
+    requires { ⌜ First-end (seenBy (now periods) (now costs) (now holdings) (now ceilings) own) ends first ⌝ }
+    requires { ⌜ Frees (now periods) (now costs) (now frees) (own .place + 1) ⌝ }
+    ensures { λ r. ⌜ r ≡ rowFor (seenBy (now (periods .entry)) (now (costs .entry)) (now (holdings .entry)) (now (ceilings .entry)) own) failing (some active) ⌝ }
+{
+    let s = own.place;
+    let n = round_up(active, own.period);
+    let worst = largest_response(
+        periods,
+        costs,
+        frees,
+        holdings,
+        ceilings,
+        own,
+        n,
+        active,
+        first,
+        ends,
+    );
+    Row {
+        holding: costs[s] - own.budget,
+        failing,
+        blocking: own.blocking,
+        active,
+        jobs: n,
+        job: worst.job,
+        resource: worst.resource,
+        outcome: judge(own.period, worst.response),
+    }
 }
 
-// The row of a subsystem: X, its first failing task (0 for none), B, L, jobs, the first job and the lowest resource (0 for
-// none) that reach R, and the outcome, which holds R.
-pub struct Row {
-    pub holding: u32,
-    pub failing: u32,
-    pub blocking: u32,
-    pub active: u32,
-    pub jobs: u32,
-    pub job: u32,
-    pub resource: u32,
-    pub outcome: Outcome,
+// Where the search for the active period may stand: what blocks reaches as far as the subsystems leave free of every tick. Only where
+// the first budget ends some periods late is that worth knowing. 0 stands for no such number.
+fn active_start(periods: &[u32], costs: &[u32], own: Own, first: u32) -> u32
+    requires { ⌜ Loads (now periods) (now costs) (own .place + 1) × (own .place < most) × (own .blocking < reach) ⌝ }
+    ensures { λ r. ⌜ ((x : ℕ) → Starts (total (now (periods .entry)) (now (costs .entry)) (own .place + 1) (own .blocking)) x r) ⌝ }
+{
+    if first / 4 <= own.period {
+        return 0;
+    }
+    let spare = spare_of(periods, costs, own.place + 1);
+    if spare == 0 {
+        return 0;
+    }
+    standing(own.blocking, spare)
+}
+
+// The active period, where it is at most the horizon; else something above it. The search goes on from the first budget end: by
+// then what blocks and the higher subsystems' periods are waited for in any case, and so are the subsystem's own that have begun.
+fn active_from(
+    periods: &[u32],
+    costs: &[u32],
+    frees: &[u32],
+    holdings: &[u32],
+    ceilings: &[usize],
+    own: Own,
+    first: u32,
+    ends: [u32; Table::MOST],
+) -> u32
+    requires { ⌜ Sound-view (seenBy (now periods) (now costs) (now holdings) (now ceilings) own) ⌝ }
+    requires { ⌜ First-end (seenBy (now periods) (now costs) (now holdings) (now ceilings) own) ends first ⌝ }
+    requires { ⌜ Frees (now periods) (now costs) (now frees) (own .place + 1) ⌝ }
+    ensures { λ r. ⌜ Active (seenBy (now (periods .entry)) (now (costs .entry)) (now (holdings .entry)) (now (ceilings .entry)) own) r ⌝ }
+{
+    let s = own.place;
+    let begun = round_up(first, own.period);
+    let mut reached = ends;
+    reached[s] = begun * own.period;
+    let more = begun * costs[s] - own.budget;
+    let start = active_start(periods, costs, own, first);
+    least_after(
+        periods,
+        costs,
+        frees,
+        s + 1,
+        &mut reached,
+        first,
+        more,
+        start,
+        Table::HORIZON,
+    )
+}
+
+// The row from what the subsystem has before it. Only the first `fits` subsystems ask for no more than every tick has; for one
+// behind them nothing is searched. Else the first budget end is, and the active period from there; where nothing is held, or one
+// resource alone, that is found on the way from job to job, unless the first budget ends many periods late: then one search passes over
+// them all, and tells whether most jobs are settled early.
+fn row_seen(
+    periods: &[u32],
+    costs: &[u32],
+    frees: &[u32],
+    holdings: &[u32],
+    ceilings: &[usize],
+    own: Own,
+    failing: u32,
+    fits: usize,
+) -> Row
+    requires { ⌜ Sound-view (seenBy (now periods) (now costs) (now holdings) (now ceilings) own) ⌝ }
+    requires { ⌜ (fits ≤ own .place → activePeriod (seenBy (now periods) (now costs) (now holdings) (now ceilings) own) ≡ none) ⌝ }
+    requires { ⌜ Frees (now periods) (now costs) (now frees) (own .place + 1) ⌝ }
+    ensures { λ r. ⌜ r ≡ rowFor (seenBy (now (periods .entry)) (now (costs .entry)) (now (holdings .entry)) (now (ceilings .entry)) own) failing (activePeriod (seenBy (now (periods .entry)) (now (costs .entry)) (now (holdings .entry)) (now (ceilings .entry)) own)) ⌝ }
+{
+    let s = own.place;
+    let cost = costs[s];
+    if fits <= s {
+        return row_without(own, cost, failing);
+    }
+    let mut ends = [0u32; Table::MOST];
+    let ahead = own.blocking + own.budget;
+    let first = least_after(
+        periods,
+        costs,
+        frees,
+        s,
+        &mut ends,
+        0,
+        ahead,
+        0,
+        Table::HORIZON,
+    );
+    if Table::HORIZON < first {
+        return row_without(own, cost, failing);
+    }
+    let lone = lone_on_the_way(holdings, ceilings, own, cost, first);
+    if lone != 0 {
+        return row_alone(
+            periods,
+            costs,
+            frees,
+            holdings,
+            ceilings,
+            own,
+            failing,
+            first,
+            ends,
+            lone,
+        );
+    }
+    if !on_the_way(own, cost, first) {
+        let active = active_from(periods, costs, frees, holdings, ceilings, own, first, ends);
+        if Table::HORIZON < active {
+            return row_without(own, cost, failing);
+        }
+        if !nearly_all(own, cost, first, active) {
+            return active_row(
+                periods,
+                costs,
+                frees,
+                holdings,
+                ceilings,
+                own,
+                failing,
+                active,
+                first,
+                ends,
+            );
+        }
+    }
+    row_by_jobs(
+        periods,
+        costs,
+        frees,
+        holdings,
+        ceilings,
+        own,
+        failing,
+        first,
+        ends,
+        0,
+    )
+}
+
+// The row of subsystem s, with the number of its first failing task, 0 for none. What all rows share is lent, since a struct would be
+// copied for each row; `blocked` is B(s), and the first `fits` subsystems ask for no more than every tick has.
+pub fn row_of(
+    lines: &[[u32; WIDTH]; Table::MOST],
+    n: usize,
+    m: usize,
+    periods: &[u32],
+    costs: &[u32],
+    frees: &[u32],
+    ceilings: &[usize],
+    blocked: u32,
+    fits: usize,
+    s: usize,
+    failing: u32,
+) -> Row
+    requires { ⌜ Sound (interfacesIn n m (now lines)) × (s < n) ⌝ }
+    requires { ⌜ Lent (interfacesIn n m (now lines)) (now periods) (now costs) (now ceilings) ⌝ }
+    requires { ⌜ Frees (now periods) (now costs) (now frees) (s + 1) ⌝ }
+    requires { ⌜ (blocked ≡ blocking (interfacesIn n m (now lines)) s) × Fitting (now periods) (now costs) n fits ⌝ }
+    ensures { λ r. ⌜ r ≡ rowOf (interfacesIn n m (now (lines .entry))) s failing ⌝ }
+{
+    let held = leading(lines, s, ceilings);
+    let own = Own {
+        place: s,
+        period: period(lines, s),
+        budget: budget(lines, s),
+        blocking: blocked,
+    };
+    row_seen(
+        periods,
+        costs,
+        frees,
+        &held[..m],
+        ceilings,
+        own,
+        failing,
+        fits,
+    )
 }

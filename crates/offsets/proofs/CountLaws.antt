@@ -12,7 +12,7 @@ use Rattle.rules.specs.declared.Judged.{Judged}
 use Rattle.rules.specs.declared.Judged.the-variants.{Admitted, Refused}
 use Rattle.rules.specs.Rules.{judgeOf}
 use Rattle.rules.proofs.Sound.{admitted-is-sound}
-use Rattle.global.specs.declared.Row.{Row}
+use Rattle.row.specs.declared.Row.{Row}
 use Rattle.rows.specs.Rows.{rowAt, noRow}
 use Rattle.report.specs.Report.{reportFor, reportOf}
 use Rattle.stored.specs.declared.ReadAnswer.{ReadAnswer}

@@ -7,8 +7,8 @@ use mathlib.Core.Bool.{Bool}
 use mathlib.Core.List.{List, [], _∷_, _++_, flatMap}
 use lib.ListN.{length}
 use Rattle.lists.specs.Range.{upTo}
-use Rattle.global.specs.declared.Row.{Row}
-use Rattle.global.specs.Row.{reported}
+use Rattle.row.specs.declared.Row.{Row}
+use Rattle.row.specs.Row.{reported}
 use Rattle.report.specs.declared.Report.{Report}
 use Rattle.report.specs.Report.{pastRows}
 use Rattle.stored.specs.Numbers.{numberSize}

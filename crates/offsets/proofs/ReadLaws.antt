@@ -7,7 +7,7 @@ use lib.ListN.{replicate}
 use Rattle.table.specs.Limits.{most}
 use Rattle.table.specs.Meaning.{System, meaning}
 use Rattle.table.specs.Parts.{subsystemCount}
-use Rattle.global.specs.declared.Row.{Row}
+use Rattle.row.specs.declared.Row.{Row}
 use Rattle.report.specs.declared.Report.{Report}
 use Rattle.rows.specs.Rows.{noRow}
 use Rattle.report.specs.Report.{reportOf}

@@ -8,10 +8,10 @@ use Rattle.table.specs.Meaning.{System, meaning}
 use Rattle.table.specs.Parts.{subsystemCount}
 use Rattle.rules.specs.declared.Judged.{Judged}
 use Rattle.rules.specs.declared.Judged.the-variants.{Admitted, Refused}
-use Rattle.global.specs.declared.Outcome.{Outcome}
-use Rattle.global.specs.declared.Outcome.the-variants.{Fits, Late, None}
-use Rattle.global.specs.declared.Row.{Row}
-use Rattle.global.specs.Row.{reported}
+use Rattle.row.specs.declared.Outcome.{Outcome}
+use Rattle.row.specs.declared.Outcome.the-variants.{Fits, Late, None}
+use Rattle.row.specs.declared.Row.{Row}
+use Rattle.row.specs.Row.{reported}
 use Rattle.report.specs.declared.Report.{Report}
 use Rattle.rows.specs.Rows.{noRow}
 use Rattle.report.specs.Report.{reportOf}

@@ -1,4 +1,4 @@
--- Which resources decide a job's response (an aid of the code: `row-led`, in crate `global`, says that rows are the same with and
+-- Which resources decide a job's response (an aid of the code: `row-led`, in crate `row`, says that rows are the same with and
 -- without it). Assumes nothing.
 use Prim.Native.Nat.{ℕ}
 use mathlib.Core.Bool.{Bool, true, false, cond}

@@ -27,13 +27,13 @@ use Rattle.rules.specs.Rules.{judgeOf}
 use Rattle.outer.specs.Interfaces.{InterfacesM}
 use Rattle.outer.specs.Parts.{periods, costs}
 use Rattle.outer.specs.Blocking.{blocking as step6}
-use Rattle.global.specs.declared.Outcome.{Outcome}
-use Rattle.global.specs.declared.Outcome.the-variants.{Fits, Late, None}
-use Rattle.global.specs.declared.Row.{Row}
+use Rattle.row.specs.declared.Outcome.{Outcome}
+use Rattle.row.specs.declared.Outcome.the-variants.{Fits, Late, None}
+use Rattle.row.specs.declared.Row.{Row}
 use Rattle.job.specs.View.{View, viewOf, resources, held as heldIn, overrun as rowOverrun}
 use Rattle.job.specs.Ends.{activePeriod, jobs, budgetEnd, jobEnd}
 use Rattle.job.specs.Response.{response as step11, worstJob, jobResource, jobResponse, responseWith}
-use Rattle.global.specs.Row.{rowOf, rowFor, rowWith, rowWithout, judged, reported}
+use Rattle.row.specs.Row.{rowOf, rowFor, rowWith, rowWithout, judged, reported}
 use Rattle.job.proofs.ViewLaws.{overrun-seen, held-seen, resources-seen}
 use Rattle.rows.specs.Interfaces.{interfacesFrom}
 use Rattle.rows.proofs.SoundLaws.{period-shown, overrun-shown, holding-shown}

@@ -16,11 +16,11 @@ use Rattle.outer.specs.Blocking.{accesses, outerCeiling, reaching, blockingBy, 
 use Rattle.job.specs.View.{View, viewOf, held, ceiling, overrun, cost}
 use Rattle.job.specs.Ends.{activePeriod, jobs, ahead, budgetEnd, shutOut, jobEnd}
 use Rattle.job.specs.Response.{firstAt, responseWith, jobResponse, jobResource, response, worstJob}
-use Rattle.global.specs.Row.{rowOf, rowFor, rowWith, rowWithout, judged, reported}
+use Rattle.row.specs.Row.{rowOf, rowFor, rowWith, rowWithout, judged, reported}
 use Rattle.rows.specs.Interfaces.{interfaceFrom, interfaceAt, interfacesFrom}
-use Rattle.global.specs.declared.Row.{Row}
-use Rattle.global.specs.declared.Outcome.{Outcome}
-use Rattle.global.specs.declared.Outcome.the-variants.{Fits, Late, None}
+use Rattle.row.specs.declared.Row.{Row}
+use Rattle.row.specs.declared.Outcome.{Outcome}
+use Rattle.row.specs.declared.Outcome.the-variants.{Fits, Late, None}
 
 -- A subsystem with one task.
 part : ℕ → ℕ → ℕ → ℕ → ℕ → List ℕ → SubsystemM

@@ -10,7 +10,7 @@ use lib.ListN.{getD}
 use Rattle.lists.specs.Range.{allTo, padded}
 use Rattle.lists.proofs.Over.{allTo-suc, allTo-fails, allTo-ext}
 use Rattle.lists.proofs.UpTo.{getD-padded}
-use Rattle.global.specs.declared.Row.{Row}
+use Rattle.row.specs.declared.Row.{Row}
 use Rattle.report.specs.Report.{fits, rowAccepted, slotAccepted, pastRows}
 
 -- Every task passes: whether the row fits decides.

@@ -15,7 +15,7 @@ use Rattle.rules.specs.declared.Place.{Place}
 use Rattle.rules.specs.declared.Judged.{Judged}
 use Rattle.rules.specs.declared.Judged.the-variants.{Admitted, Refused}
 use Rattle.rules.specs.Rules.{judgeOf}
-use Rattle.global.specs.declared.Row.{Row}
+use Rattle.row.specs.declared.Row.{Row}
 use Rattle.report.specs.declared.Report.{Report}
 use Rattle.rows.specs.Rows.{rowAt, noRow}
 use Rattle.report.specs.Report.{acceptedAt, accepted, slotAccepted, reportFor, reportOf}

@@ -11,11 +11,11 @@ use Rattle.table.specs.Parts.{subsystemCount}
 use Rattle.rules.specs.declared.Judged.{Judged}
 use Rattle.rules.specs.declared.Judged.the-variants.{Admitted, Refused}
 use Rattle.rules.specs.Rules.{judgeOf}
-use Rattle.global.specs.declared.Outcome.{Outcome}
-use Rattle.global.specs.declared.Outcome.the-variants.{Fits, Late, None}
-use Rattle.global.specs.declared.Row.{Row}
+use Rattle.row.specs.declared.Outcome.{Outcome}
+use Rattle.row.specs.declared.Outcome.the-variants.{Fits, Late, None}
+use Rattle.row.specs.declared.Row.{Row}
 use Rattle.report.specs.declared.Report.{Report}
-use Rattle.rows.specs.Rows.{rowAt, noRow}
+use Rattle.rows.specs.Rows.{rowAt, rowOfZeros, noRow}
 
 -- Whether a row fits.
 abbrev pub fits : Outcome → Bool
@@ -36,17 +36,7 @@ accepted sys = allTo (acceptedAt sys) (subsystemCount sys)
 
 -- What stands past the end of an array of rows. No count reaches there.
 abbrev pub pastRows : Row
-pastRows =
-    record {
-      holding = 0;
-      failing = 0;
-      blocking = 0;
-      active = 0;
-      jobs = 0;
-      job = 0;
-      resource = 0;
-      outcome = Fits 0;
-    }
+pastRows = rowOfZeros (Fits 0)
 
 -- Whether the row in a slot is accepted.
 unfoldable pub slotAccepted : List Row → ℕ → Bool

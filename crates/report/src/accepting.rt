@@ -4,8 +4,8 @@ ghost use Prim.Native.Nat.{_≤_};
 ghost use Rattle.lists.specs.Range.{allTo};
 ghost use Rattle.table.specs.Limits.{most};
 ghost use Rattle.report.specs.Report.{fits, rowAccepted, slotAccepted};
-use global::Outcome;
-use global::Row;
+use row::Outcome;
+use row::Row;
 use table::Table;
 
 // Whether a row fits.

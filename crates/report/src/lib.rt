@@ -10,7 +10,7 @@ ghost use Rattle.rules.specs.declared.Judged.the-variants.{Admitted};
 ghost use Rattle.rules.specs.Rules.{countsJudged};
 ghost use Rattle.rows.specs.Rows.{noRow};
 ghost use Rattle.report.specs.Report.{reportOf};
-use global::Row;
+use row::Row;
 use judge::judge_counts;
 use judge::judge_grid;
 use numbers::index;

@@ -20,8 +20,8 @@ use Rattle.outer.specs.declared.ceilings.Common.{Common}
 use Rattle.outer.specs.Interfaces.{InterfacesM}
 use Rattle.outer.specs.Parts.{count, costOf}
 use Rattle.outer.specs.Common.{commonOf}
-use Rattle.global.specs.declared.Row.{Row}
-use Rattle.global.specs.Row.{rowOf}
+use Rattle.row.specs.declared.Row.{Row}
+use Rattle.row.specs.Row.{rowOf}
 use Rattle.rows.specs.Interfaces.{interfacesFrom}
 use Rattle.rows.specs.Slots.{SoundSlot}
 use Rattle.rows.specs.Rows.{failingAt, rowAt, noRow}

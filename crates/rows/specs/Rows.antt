@@ -3,9 +3,10 @@ use Prim.Native.Nat.{ℕ}
 use Rattle.table.specs.Meaning.{System}
 use Rattle.table.specs.Parts.{subsystemOf}
 use Rattle.local.specs.Passing.{firstFailing, givingEnd}
-use Rattle.global.specs.declared.Outcome.the-variants.{None}
-use Rattle.global.specs.declared.Row.{Row}
-use Rattle.global.specs.Row.{rowOf}
+use Rattle.row.specs.declared.Outcome.{Outcome}
+use Rattle.row.specs.declared.Outcome.the-variants.{None}
+use Rattle.row.specs.declared.Row.{Row}
+use Rattle.row.specs.Row.{rowOf}
 use Rattle.rows.specs.Interfaces.{interfacesFrom}
 
 -- The first failing task of subsystem s, 0 if none, with E = P − X.
@@ -16,9 +17,9 @@ failingAt sys s = firstFailing (sys .resources) (subsystemOf sys s) (givingEnd (
 unfoldable pub rowAt : System → ℕ → Row
 rowAt sys s = rowOf (interfacesFrom sys) s (failingAt sys s)
 
--- The row that stands past N, and everywhere in a refused report: zero, with outcome none.
-abbrev pub noRow : Row
-noRow =
+-- A row whose figures are all zero.
+abbrev pub rowOfZeros : Outcome → Row
+rowOfZeros outcome =
     record {
       holding = 0;
       failing = 0;
@@ -27,5 +28,9 @@ noRow =
       jobs = 0;
       job = 0;
       resource = 0;
-      outcome = None;
+      outcome = outcome;
     }
+
+-- The row that stands past N, and everywhere in a refused report: zero, with outcome none.
+abbrev pub noRow : Row
+noRow = rowOfZeros None

@@ -7,7 +7,7 @@ ghost use Rattle.table.specs.Grid.{IsLine, LineOf};
 ghost use Rattle.stored.specs.Field.{subsystemLength, taskLength};
 ghost use Rattle.stored.specs.Decode.{decodedSubsystem, decodedTask};
 ghost use Rattle.stored.specs.HeadLine.{HeadLine};
-use crate::judge::COUNT_AT;
+use crate::fields::COUNT_AT;
 use crate::number::NUMBER;
 use crate::number::number_at;
 use crate::number::wide;

@@ -1,6 +1,6 @@
 // The stored table: numbers as bytes, the judge of a field and the decoders. Crate `reader` reads, crate `writer` writes; what
 // a read gives and what a write leaves is defined here, with the theorems on both. Every function here is proved, and the
-// crate assumes nothing of its own. No function of this file has a `requires`; those of `number`, `judge` and `decode` ask for
+// crate assumes nothing of its own. No function of this file has a `requires`; those of `number`, `fields` and `decode` ask for
 // the bytes that they are to read or to write, and whoever is lent a line asks for its shape.
 ghost use mathlib.Core.Path.{_≡_};
 ghost use Rattle.stored.specs.Judge.{faultNumber};
@@ -9,8 +9,8 @@ use rules::Place;
 use table::Table;
 
 pub mod decode;
+pub mod fields;
 mod held;
-pub mod judge;
 pub mod number;
 
 pub use held::table_is_held;

@@ -7,7 +7,7 @@ use lib.ListN.{length, getD}
 use Rattle.lists.specs.Range.{joinTo}
 use Rattle.lists.proofs.UpTo.{joinTo-zero, joinTo-suc, joinTo-at-most}
 use Rattle.table.specs.Limits.{most}
-use Rattle.global.specs.declared.Row.{Row}
+use Rattle.row.specs.declared.Row.{Row}
 use Rattle.report.specs.Report.{pastRows}
 use Rattle.wording.specs.Wrote.{Wrote}
 use Rattle.wording.specs.Lines.{rowLine}

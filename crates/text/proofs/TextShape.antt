@@ -14,7 +14,7 @@ use Rattle.table.specs.declared.Table.{Table}
 use Rattle.rules.specs.declared.Judged.{Judged}
 use Rattle.rules.specs.declared.Judged.the-variants.{Admitted, Refused}
 use Rattle.rules.specs.Refusal.{Refusal, refusal}
-use Rattle.global.specs.declared.Row.{Row}
+use Rattle.row.specs.declared.Row.{Row}
 use Rattle.report.specs.declared.Report.{Report}
 use Rattle.report.specs.Report.{pastRows, reportOf}
 use Rattle.stored.specs.declared.ReadAnswer.{ReadAnswer}

@@ -11,7 +11,7 @@ ghost use Rattle.wording.specs.Lines.{verdict};
 ghost use Rattle.wording.specs.Room.{lineMost, textRoom};
 ghost use Rattle.text.specs.Text.{slotLine, reportText, tableText, textOf, IsPrinted};
 ghost use Rattle.wording.specs.Wrote.{Wrote};
-use global::Row;
+use row::Row;
 use lines::put_bytes;
 use numbers::index;
 use report::Report;

@@ -3,7 +3,7 @@ use mathlib.Core.Path.{_≡_, refl}
 use mathlib.Core.Bool.{true}
 use Rattle.lines.specs.Decimal.{digitByte, digits, decimal}
 use Rattle.lines.specs.Words.{word}
-use Rattle.global.specs.declared.Outcome.the-variants.{Fits}
+use Rattle.row.specs.declared.Outcome.the-variants.{Fits}
 use Rattle.wording.specs.Lines.{figure, refusedFile, refusedTable, verdict, rowStart, rowEnd, rowLine}
 
 -- Table A: its first row, its third, and the verdict.

@@ -6,10 +6,10 @@ use lib.ListN.{length, length-append}
 use Rattle.lines.specs.Decimal.{decimal}
 use Rattle.lines.specs.Words.{word}
 use Rattle.lines.proofs.DecimalLaws.{decimal-at-most-ten}
-use Rattle.global.specs.declared.Outcome.{Outcome}
-use Rattle.global.specs.declared.Outcome.the-variants.{Fits, Late, None}
-use Rattle.global.specs.declared.Row.{Row}
-use Rattle.global.specs.Row.{reported}
+use Rattle.row.specs.declared.Outcome.{Outcome}
+use Rattle.row.specs.declared.Outcome.the-variants.{Fits, Late, None}
+use Rattle.row.specs.declared.Row.{Row}
+use Rattle.row.specs.Row.{reported}
 use Rattle.wording.specs.Lines.{figure, outcomeWord, rowStart, rowEnd, rowLine}
 use Rattle.wording.specs.Room.{startMost, endMost, lineMost}
 

@@ -5,10 +5,10 @@ use mathlib.Core.Path.{_≡_, refl, sym, ap, ap₂, _∙_}
 use mathlib.Core.List.{List, [], _∷_, _++_, append-assoc}
 use Rattle.lines.specs.Decimal.{decimal}
 use Rattle.lines.specs.Words.{word}
-use Rattle.global.specs.declared.Outcome.{Outcome}
-use Rattle.global.specs.declared.Outcome.the-variants.{Fits, Late, None}
-use Rattle.global.specs.declared.Row.{Row}
-use Rattle.global.specs.Row.{reported}
+use Rattle.row.specs.declared.Outcome.{Outcome}
+use Rattle.row.specs.declared.Outcome.the-variants.{Fits, Late, None}
+use Rattle.row.specs.declared.Row.{Row}
+use Rattle.row.specs.Row.{reported}
 use Rattle.wording.specs.Lines.{figure, outcomeWord, rowStart, rowEnd, rowLine}
 use Rattle.wording.specs.Shape.{space, LF, shown, IsWord, AreWords, last, more, parted, line}
 use Rattle.wording.proofs.ShapeLaws.{number-is-word, one-word, parted-more, figure-behind, letters}

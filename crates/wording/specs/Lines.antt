@@ -7,10 +7,10 @@ use Rattle.lines.specs.Decimal.{decimal}
 use Rattle.lines.specs.Words.{word}
 use Rattle.rules.specs.Refusal.{Refusal}
 use Rattle.stored.specs.declared.FileRefusal.{FileRefusal}
-use Rattle.global.specs.declared.Outcome.{Outcome}
-use Rattle.global.specs.declared.Outcome.the-variants.{Fits, Late, None}
-use Rattle.global.specs.declared.Row.{Row}
-use Rattle.global.specs.Row.{reported}
+use Rattle.row.specs.declared.Outcome.{Outcome}
+use Rattle.row.specs.declared.Outcome.the-variants.{Fits, Late, None}
+use Rattle.row.specs.declared.Row.{Row}
+use Rattle.row.specs.Row.{reported}
 
 -- A word, and a number behind it.
 unfoldable pub figure : String → ℕ → List ℕ

@@ -5,13 +5,13 @@ ghost use mathlib.Core.List.{_++_};
 ghost use Prim.Native.Nat.{_+_, _≤_, _<_};
 ghost use lib.ListN.{length};
 ghost use Rattle.lines.specs.Decimal.{decimal};
-ghost use Rattle.global.specs.Row.{reported};
+ghost use Rattle.row.specs.Row.{reported};
 ghost use Rattle.table.specs.Limits.{most};
 ghost use Rattle.wording.specs.Lines.{outcomeWord, rowStart, rowEnd, rowLine};
 ghost use Rattle.wording.specs.Room.{startMost, endMost, lineMost};
 ghost use Rattle.wording.specs.Wrote.{Wrote};
-use global::Outcome;
-use global::Row;
+use row::Outcome;
+use row::Row;
 use lines::put_bytes;
 use lines::put_number;
 

@@ -18,9 +18,9 @@ use judge::judge_counts;
 use rules::Judged;
 use stored::WriteAnswer;
 use stored::decode::TASK_START;
-use stored::judge::HEADER_LENGTH;
-use stored::judge::START;
-use stored::judge::SUBSYSTEM_LENGTH;
+use stored::fields::HEADER_LENGTH;
+use stored::fields::START;
+use stored::fields::SUBSYSTEM_LENGTH;
 use stored::number::NUMBER;
 use table::Table;
 

@@ -17,8 +17,8 @@ use Rattle.reader.proofs.read.read_subsystem.Tie as tie
 use Rattle.reader.proofs.read.read_subsystem.Reads as reads
 use Rattle.reader.proofs.read.read_subsystem.Lts as lts
 use Rattle.stored.proofs.decode.decode_subsystem.Reads as decode-subsystem-reads
-use Rattle.stored.proofs.judge.judge_subsystem.Reads as judge-subsystem-reads
-use Rattle.stored.proofs.judge.value.Reads as value-reads
+use Rattle.stored.proofs.fields.judge_subsystem.Reads as judge-subsystem-reads
+use Rattle.stored.proofs.fields.value.Reads as value-reads
 use Rattle.reader.proofs.read.answer_at.Reads as answer-at-reads
 use Rattle.reader.proofs.read.read_tasks.Reads as read-tasks-reads
 use Rattle.table.proofs.grid.count.Reads as count-reads

@@ -15,8 +15,8 @@ use Rattle.reader.proofs.read.read_tasks.Tie as tie
 use Rattle.reader.proofs.read.read_tasks.Reads as reads
 use Rattle.reader.proofs.read.read_tasks.Lts as lts
 use Rattle.stored.proofs.decode.decode_task.Reads as decode-task-reads
-use Rattle.stored.proofs.judge.judge.Reads as judge-reads
-use Rattle.stored.proofs.judge.value.Reads as value-reads
+use Rattle.stored.proofs.fields.judge.Reads as judge-reads
+use Rattle.stored.proofs.fields.value.Reads as value-reads
 use Rattle.reader.proofs.read.answer_at.Reads as answer-at-reads
 
 abbrev Inv-loop : tie.InvT-loop

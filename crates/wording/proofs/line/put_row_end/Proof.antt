@@ -5,7 +5,7 @@ use mathlib.Core.Path.{ap}
 use mathlib.Core.List.{List, _++_}
 use borrow.Author.Needs.{needs}
 use Rattle.lines.specs.Words.{word}
-use Rattle.global.specs.Row.{reported}
+use Rattle.row.specs.Row.{reported}
 use Rattle.wording.specs.Wrote.{Wrote}
 use Rattle.wording.specs.Lines.{figure, rowEnd}
 use Rattle.wording.proofs.WroteLaws.{Run, wrote-same, run-on, run-room}

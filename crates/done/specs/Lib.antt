@@ -1,0 +1,2 @@
+-- Jobs that end when they are done.
+pub mod Done

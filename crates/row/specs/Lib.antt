@@ -1,0 +1,2 @@
+-- The row of a subsystem.
+pub mod Row
