@@ -280,13 +280,7 @@ module _ (periods costs ends : List ℕ) (n constant x : ℕ) (f : Fit periods c
                   let same : j ≡ t = omega arith in
                   rw same (getD-set-same ends t k 0 room ∙ er ∙ ap (λ (m : ℕ). m + q * getD periods t 0) (c .whole t u) ∙ sym times)
 
-      -- It is ahead, and what there is to do has grown.
-      pub now-ahead : t < length ends → r ≤ bound → r ≤ getD after t 0
-      now-ahead room b =
-          let (q, er, ex, ahead, least) = g .least b in
-          let moved : getD after t 0 ≡ getD ends t 0 + q * getD periods t 0 = ap (λ (l : List ℕ). getD l t 0) er ∙ getD-set-same ends t (getD ends t 0 + q * getD periods t 0) 0 room in
-          omega (arith, moved, ex, ahead)
-
+      -- What there is to do has grown.
       pub grows : getD ends t 0 < x → r ≤ bound → x < r
       grows late b =
           let (q, er, ex, ahead, least) = g .least b in

@@ -2,4 +2,4 @@
 pub mod CatchLaws
 pub mod ClimbLaws
 pub mod AdvanceLaws
-pub mod RoundLaws
+pub mod PassLaws
