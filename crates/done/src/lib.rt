@@ -24,31 +24,25 @@ ghost use Rattle.job.specs.Computed.{seenBy};
 ghost use Rattle.job.specs.Sound.{Sound-view, First-end};
 ghost use Rattle.done.specs.Done.{First-done, Ends-done, Alone};
 
-// Whether nothing is held and the first budget ends some periods late at the most: the jobs are gone through without further ado.
-pub fn on_the_way(own: Own, cost: u32, first: u32) -> bool
+// Whether nothing is held and the active period is not far: the jobs are gone through without further ado.
+pub fn on_the_way(own: Own, cost: u32, far: bool) -> bool
     ensures { λ r. ⌜ (r ≡ true → cost ≡ own .budget) ⌝ }
 {
     if cost == own.budget {
-        return first / 4 <= own.period;
+        return !far;
     }
     false
 }
 
-// The resource that is held alone (`lone_resource`), where one is held and the first budget ends some periods late at the most; else 0.
-pub fn lone_on_the_way(
-    holdings: &[u32],
-    ceilings: &[usize],
-    own: Own,
-    cost: u32,
-    first: u32,
-) -> u32
+// The resource that is held alone (`lone_resource`), where one is held and the active period is not far; else 0.
+pub fn lone_on_the_way(holdings: &[u32], ceilings: &[usize], own: Own, cost: u32, far: bool) -> u32
     requires { ⌜ (length (now holdings) ≤ length (now ceilings)) × (length (now holdings) ≤ most) ⌝ }
     ensures { λ r. ⌜ (1 ≤ r → Alone (now (holdings .entry)) (now (ceilings .entry)) (own .place) (r - 1)) ⌝ }
 {
-    if cost == own.budget {
+    if far {
         return 0;
     }
-    if own.period < first / 4 {
+    if cost == own.budget {
         return 0;
     }
     lone_resource(holdings, ceilings, own.place)

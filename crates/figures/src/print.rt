@@ -1,8 +1,8 @@
 // Figures as lines on standard output: a name, then the value or the values.
 ghost use mathlib.Core.Path.{_≡_};
+use libc::STDOUT_FILENO;
 use row::Outcome;
 use row::Row;
-use libc::STDOUT_FILENO;
 use rules::Judged;
 use rules::places::rule_number;
 

@@ -7,9 +7,12 @@ use done::on_the_way;
 use done::row_alone;
 use done::row_by_jobs;
 use job::Own;
+use least::REACH;
+use least::demand_in;
 use least::round_up;
 use least::spare_of;
 use least::standing;
+use numbers::wide;
 use outer::interfaces::WIDTH;
 use outer::interfaces::budget;
 use outer::interfaces::period;
@@ -83,13 +86,37 @@ fn active_row(
     }
 }
 
-// Where the search for the active period may stand: what blocks reaches as far as the subsystems leave free of every tick. Only where
-// the first budget ends some periods late is that worth knowing. 0 stands for no such number.
-fn active_start(periods: &[u32], costs: &[u32], own: Own, first: u32) -> u32
+// Whether the active period may be far: the first budget ends some periods late, or it ends after the next release and the shares that the
+// subsystems have of every tick, with what each asks for at once, do not bring the active period within the horizon. Only time hangs on
+// the answer: a way from job to job would be long then, and in vain where there is no active period.
+fn may_be_far(periods: &[u32], costs: &[u32], own: Own, first: u32) -> bool
+    requires { ⌜ Loads (now periods) (now costs) (own .place + 1) × (own .place < most) ⌝ }
+{
+    if first <= own.period {
+        return false;
+    }
+    if own.period < first / 4 {
+        return true;
+    }
+    let n = own.place + 1;
+    let spare = spare_of(periods, costs, n);
+    if spare == 0 {
+        return true;
+    }
+    let once = wide(own.blocking) + demand_in(periods, costs, n, 1);
+    if wide(REACH) <= once {
+        return true;
+    }
+    Table::HORIZON < standing(once as u32, spare)
+}
+
+// Where the search for the active period may stand: what blocks reaches as far as the subsystems leave free of every tick. Only where it
+// may be far is that worth knowing. 0 stands for no such number.
+fn active_start(periods: &[u32], costs: &[u32], own: Own, far: bool) -> u32
     requires { ⌜ Loads (now periods) (now costs) (own .place + 1) × (own .place < most) × (own .blocking < reach) ⌝ }
     ensures { λ r. ⌜ ((x : ℕ) → Starts (total (now (periods .entry)) (now (costs .entry)) (own .place + 1) (own .blocking)) x r) ⌝ }
 {
-    if first / 4 <= own.period {
+    if !far {
         return 0;
     }
     let spare = spare_of(periods, costs, own.place + 1);
@@ -110,6 +137,7 @@ fn active_from(
     own: Own,
     first: u32,
     ends: [u32; Table::MOST],
+    far: bool,
 ) -> u32
     requires { ⌜ Sound-view (seenBy (now periods) (now costs) (now holdings) (now ceilings) own) ⌝ }
     requires { ⌜ First-end (seenBy (now periods) (now costs) (now holdings) (now ceilings) own) ends first ⌝ }
@@ -121,7 +149,7 @@ fn active_from(
     let mut reached = ends;
     reached[s] = begun * own.period;
     let more = begun * costs[s] - own.budget;
-    let start = active_start(periods, costs, own, first);
+    let start = active_start(periods, costs, own, far);
     least_after(
         periods,
         costs,
@@ -137,8 +165,8 @@ fn active_from(
 
 // The row from what the subsystem has before it. Only the first `fits` subsystems ask for no more than every tick has; for one
 // behind them nothing is searched. Else the first budget end is, and the active period from there; where nothing is held, or one
-// resource alone, that is found on the way from job to job, unless the first budget ends many periods late: then one search passes over
-// them all, and tells whether most jobs are settled early.
+// resource alone, that is found on the way from job to job, unless it may be far: then one search passes over them all, and tells
+// whether there is an active period and whether most jobs are settled early.
 fn row_seen(
     periods: &[u32],
     costs: &[u32],
@@ -175,7 +203,8 @@ fn row_seen(
     if Table::HORIZON < first {
         return row_without(own, cost, failing);
     }
-    let lone = lone_on_the_way(holdings, ceilings, own, cost, first);
+    let far = may_be_far(periods, costs, own, first);
+    let lone = lone_on_the_way(holdings, ceilings, own, cost, far);
     if lone != 0 {
         return row_alone(
             periods,
@@ -190,8 +219,18 @@ fn row_seen(
             lone,
         );
     }
-    if !on_the_way(own, cost, first) {
-        let active = active_from(periods, costs, frees, holdings, ceilings, own, first, ends);
+    if !on_the_way(own, cost, far) {
+        let active = active_from(
+            periods,
+            costs,
+            frees,
+            holdings,
+            ceilings,
+            own,
+            first,
+            ends,
+            far,
+        );
         if Table::HORIZON < active {
             return row_without(own, cost, failing);
         }

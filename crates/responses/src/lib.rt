@@ -25,16 +25,21 @@ ghost use Rattle.job.specs.Computed.{seenBy, worstOf};
 ghost use Rattle.job.specs.Sound.{Sound-view, Counted, First-end};
 ghost use Rattle.responses.specs.Known.{Jobs, Ended};
 
-// What the higher subsystems leave free of every tick, in the parts of crate `least`, where there are many jobs and each waits for so
-// long that it pays to start its search by it: further than it would begin by more than twice what the higher ones ask for at once.
-// Else 0.
-fn spare_for_jobs(periods: &[u32], costs: &[u32], own: Own, n: u32) -> u64
+// What the higher subsystems leave free of every tick, in the parts of crate `least`, where there are many jobs, or some and the first has
+// waited long, and each waits for so long that it pays to start its search by it: further than it would begin by more than twice what the
+// higher ones ask for at once. Else 0.
+fn spare_for_jobs(periods: &[u32], costs: &[u32], own: Own, n: u32, first: u32) -> u64
     requires { ⌜ Loads (now periods) (now costs) (own .place) × (own .place < length (now costs)) × (getD (now costs) (own .place) 0 < reach) ⌝ }
     ensures { λ r. ⌜ (1 ≤ r → r ≡ unit - shares (now (periods .entry)) (now (costs .entry)) (own .place)) ⌝ }
 {
     let s = own.place;
-    if n < 16 {
+    if n < 2 {
         return 0;
+    }
+    if n < 16 {
+        if wide(first / 8) < wide(own.blocking) + wide(own.budget) {
+            return 0;
+        }
     }
     let spare = spare_of(periods, costs, s);
     if spare == 0 {
@@ -113,7 +118,7 @@ pub fn largest_response(
     let last = n - 1;
     let room = active - last * cost;
     let plain = is_plain(holdings, ceilings, n);
-    let spare = spare_for_jobs(periods, costs, own, n);
+    let spare = spare_for_jobs(periods, costs, own, n, first);
     let mut until = last;
     while k < until {
         let then = ends;

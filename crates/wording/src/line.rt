@@ -10,10 +10,10 @@ ghost use Rattle.table.specs.Limits.{most};
 ghost use Rattle.wording.specs.Lines.{outcomeWord, rowStart, rowEnd, rowLine};
 ghost use Rattle.wording.specs.Room.{startMost, endMost, lineMost};
 ghost use Rattle.wording.specs.Wrote.{Wrote};
-use row::Outcome;
-use row::Row;
 use lines::put_bytes;
 use lines::put_number;
+use row::Outcome;
+use row::Row;
 
 // A word, and a number behind it.
 pub fn put_figure(buf: &mut [u8], at: usize, label: &[u8], n: u32) -> usize

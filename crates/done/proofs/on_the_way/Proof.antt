@@ -6,7 +6,7 @@ use Rattle.done.proofs.on_the_way.Statement.{statement}
 use Rattle.done.proofs.on_the_way.Tie as tie
 
 returns : tie.Need-returns
-returns c = λ e. c .before .if1 .taken
+returns c = λ e. c .if1 .taken
 
 returns-2 : tie.Need-returns-2
 returns-2 c = λ e. absurd (true≢false (sym e))

@@ -14,19 +14,19 @@ returns : tie.Need-returns
 returns c = λ x. starts-nowhere _ x
 
 add-spare-of : tie.Need-add-spare-of
-add-spare-of c = omega (arith, c .before .before .before .before .before .pre .1)
+add-spare-of c = omega (arith, c .before .before .before .before .pre .1)
 
 spare-of-requires : tie.Need-spare-of-requires
-spare-of-requires c κs = c .before .before .before .before .before .pre .0
+spare-of-requires c κs = c .before .before .before .before .pre .0
 
 returns-2 : tie.Need-returns-2
 returns-2 c = λ x. starts-nowhere _ x
 
 standing-requires : tie.Need-standing-requires
-standing-requires c κs = (c .before .before .before .before .before .before .before .pre .2, omega (arith, c .if2 .left))
+standing-requires c κs = (c .before .before .before .before .before .before .pre .2, omega (arith, c .if2 .left))
 
 returns-3 : tie.Need-returns-3
-returns-3 c = λ x. standing-starts _ _ _ _ _ x _ (c .before .before .before .before .before .before .before .before .pre .0) (c .before .before .spare-of .ensures) (omega (arith, c .before .if2 .left)) (c .standing .ensures)
+returns-3 c = λ x. standing-starts _ _ _ _ _ x _ (c .before .before .before .before .before .before .before .pre .0) (c .before .before .spare-of .ensures) (omega (arith, c .before .if2 .left)) (c .standing .ensures)
 
 pub active-start-spec : {M : Type 1} → statement M
 active-start-spec =

@@ -55,17 +55,22 @@ returns-2 c =
     let s = c .before .before .before .before .before .before .before .before .before .before .before .before in
     c .row-without2 .ensures ∙ row-without _ (s .args .failing) (overrun-computed _ (s .pre .0)) (first-beyond _ (s .pre .0) (c .before .before .least-after .ensures .0) (c .before .if2 .taken))
 
+may-be-far-requires : tie.Need-may-be-far-requires
+may-be-far-requires c κs =
+    let sound = c .before .before .before .before .before .before .before .before .before .before .before .pre .0 in
+    (sound .fit .loads, sound .few)
+
 lone-on-the-way-requires : tie.Need-lone-on-the-way-requires
 lone-on-the-way-requires c κs =
-    let sound = c .before .before .before .before .before .before .before .before .before .before .before .pre .0 in
+    let sound = c .before .before .before .before .before .before .before .before .before .before .before .before .pre .0 in
     (omega (arith, sound .same-resources), sound .few-resources)
 
 row-alone-requires : tie.Need-row-alone-requires
 row-alone-requires c κs =
-    let s = c .before .before .before .before .before .before .before .before .before .before .before .before .before in
-    let f = c .before .before .before .least-after .ensures in
+    let s = c .before .before .before .before .before .before .before .before .before .before .before .before .before .before in
+    let f = c .before .before .before .before .least-after .ensures in
     let some : 1 ≤ c .before .lone-on-the-way .result = omega (arith, c .if3 .taken) in
-    (s .pre .0, ((some, c .before .lone-on-the-way .ensures some), (first-end _ (s .pre .0) (f .0) (omega (arith, f .1)) (c .before .before .if2 .left), s .pre .1 .1)))
+    (s .pre .0, ((some, c .before .lone-on-the-way .ensures some), (first-end _ (s .pre .0) (f .0) (omega (arith, f .1)) (c .before .before .before .if2 .left), s .pre .1 .1)))
 
 returns-3 : tie.Need-returns-3
 returns-3 c = c .row-alone .ensures
@@ -75,41 +80,41 @@ on-the-way-requires c κs = search needs
 
 active-from-requires : tie.Need-active-from-requires
 active-from-requires c κs =
-    let s = c .before .before .before .before .before .before .before .before .before .before .before .before .before .before .before in
-    let f = c .before .before .before .before .before .least-after .ensures in
-    (s .pre .0, (first-end _ (s .pre .0) (f .0) (omega (arith, f .1)) (c .before .before .before .before .if2 .left), s .pre .1 .1))
+    let s = c .before .before .before .before .before .before .before .before .before .before .before .before .before .before .before .before in
+    let f = c .before .before .before .before .before .before .least-after .ensures in
+    (s .pre .0, (first-end _ (s .pre .0) (f .0) (omega (arith, f .1)) (c .before .before .before .before .before .if2 .left), s .pre .1 .1))
 
 row-without-requires-3 : tie.Need-row-without-requires-3
-row-without-requires-3 c κs = budget-below _ (c .before .before .before .before .before .before .before .before .before .before .before .before .before .before .before .before .before .pre .0)
+row-without-requires-3 c κs = budget-below _ (c .before .before .before .before .before .before .before .before .before .before .before .before .before .before .before .before .before .before .pre .0)
 
 returns-4 : tie.Need-returns-4
 returns-4 c =
-    let s = c .before .before .before .before .before .before .before .before .before .before .before .before .before .before .before .before .before .before in
+    let s = c .before .before .before .before .before .before .before .before .before .before .before .before .before .before .before .before .before .before .before in
     c .row-without3 .ensures ∙ row-without _ (s .args .failing) (overrun-computed _ (s .pre .0)) (c .before .before .active-from .ensures .beyond (c .before .if5 .taken))
 
 nearly-all-requires : tie.Need-nearly-all-requires
 nearly-all-requires c κs =
-    let sound = c .before .before .before .before .before .before .before .before .before .before .before .before .before .before .before .before .before .pre .0 in
-    (omega (arith, sound .own-cost, sound .fits), sound .period-small, omega (arith, c .before .before .before .before .before .before .if2 .left), omega (arith, c .if5 .left))
+    let sound = c .before .before .before .before .before .before .before .before .before .before .before .before .before .before .before .before .before .before .pre .0 in
+    (omega (arith, sound .own-cost, sound .fits), sound .period-small, omega (arith, c .before .before .before .before .before .before .before .if2 .left), omega (arith, c .if5 .left))
 
 active-row-requires : tie.Need-active-row-requires
 active-row-requires c κs =
-    let s = c .before .before .before .before .before .before .before .before .before .before .before .before .before .before .before .before .before .before .before in
-    let f = c .before .before .before .before .before .before .before .before .before .least-after .ensures in
-    (s .pre .0, (c .before .before .before .active-from .ensures .at (c .before .before .if5 .left), (first-end _ (s .pre .0) (f .0) (omega (arith, f .1)) (c .before .before .before .before .before .before .before .before .if2 .left), s .pre .1 .1)))
+    let s = c .before .before .before .before .before .before .before .before .before .before .before .before .before .before .before .before .before .before .before .before in
+    let f = c .before .before .before .before .before .before .before .before .before .before .least-after .ensures in
+    (s .pre .0, (c .before .before .before .active-from .ensures .at (c .before .before .if5 .left), (first-end _ (s .pre .0) (f .0) (omega (arith, f .1)) (c .before .before .before .before .before .before .before .before .before .if2 .left), s .pre .1 .1)))
 
 returns-5 : tie.Need-returns-5
 returns-5 c =
     let is = c .before .before .before .before .active-from .ensures .at (c .before .before .before .if5 .left) in
-    let s = c .before .before .before .before .before .before .before .before .before .before .before .before .before .before .before .before .before .before .before .before in
+    let s = c .before .before .before .before .before .before .before .before .before .before .before .before .before .before .before .before .before .before .before .before .before in
     c .active-row .ensures ∙ ap (rowFor _ (s .args .failing)) (sym is)
 
 row-by-jobs-requires : tie.Need-row-by-jobs-requires
 row-by-jobs-requires c κs =
-    let s = c .before .before .before .before .before .before .before .before .before .before .before .before .before .before .before in
-    let f = c .before .before .before .before .before .least-after .ensures in
+    let s = c .before .before .before .before .before .before .before .before .before .before .before .before .before .before .before .before in
+    let f = c .before .before .before .before .before .before .least-after .ensures in
     let nothing = no-overrun _ (s .pre .0) (⊎-elim (λ w. w .3 .ensures (not-false _ (w .4 .left))) (λ w. c .before .on-the-way .ensures (not-false _ (w .left))) (c .if4 .came)) in
-    (s .pre .0, (ends-done-without _ nothing, (first-done-without _ nothing (first-end _ (s .pre .0) (f .0) (omega (arith, f .1)) (c .before .before .before .before .if2 .left)), s .pre .1 .1)))
+    (s .pre .0, (ends-done-without _ nothing, (first-done-without _ nothing (first-end _ (s .pre .0) (f .0) (omega (arith, f .1)) (c .before .before .before .before .before .if2 .left)), s .pre .1 .1)))
 
 returns-6 : tie.Need-returns-6
 returns-6 c = c .row-by-jobs .ensures
@@ -126,6 +131,7 @@ row-seen-spec =
     least-after-requires
     row-without-requires-2
     returns-2
+    may-be-far-requires
     lone-on-the-way-requires
     row-alone-requires
     returns-3
