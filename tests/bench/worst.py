@@ -1,6 +1,9 @@
-"""The search of tests/bench/worst. A table is (M, subsystems), a subsystem (P, Q, tasks), a task (T, C, D, accesses)."""
+"""The search of tests/bench/worst. A table is [M, subsystems], a subsystem [P, Q, tasks], a task [T, C, D, accesses]."""
 import copy
+import json
+import os
 import random
+import select
 import struct
 import subprocess
 import sys
@@ -27,23 +30,62 @@ def frame(table):
     return number(len(file)) + file
 
 
-def counted(program, frames):
-    run = subprocess.run(["qemu-x86_64", "-plugin", work + "/count.so"] + program, input=frames, capture_output=True)
-    told = [line for line in run.stderr.decode().splitlines() if line.startswith("instructions ")]
-    return int(told[0].split()[1]), run.stdout
+class Counted:
+    """A program that goes on from file to file. `reads` is how often it reads for one: the last time it waits for the next."""
+
+    def __init__(self, program, reads):
+        self.program, self.reads, self.process = program, reads, None
+        self.start()
+
+    def start(self):
+        if self.process:
+            self.process.kill()
+            self.process.wait()
+            os.close(self.told)
+        self.told, end = os.pipe()
+        command = ["qemu-x86_64", "-plugin", work + "/step.so"] + self.program
+        self.process = subprocess.Popen(command, stdin=subprocess.PIPE, stdout=subprocess.DEVNULL, stderr=end, bufsize=0)
+        os.close(end)
+        self.rest = b""
+        self.so_far = self.number(10)
+        self.count(frame(SMALLEST), 10)
+
+    def number(self, patience):
+        until = time.time() + patience
+        while b"\n" not in self.rest:
+            left = until - time.time()
+            if left <= 0 or not select.select([self.told], [], [], left)[0]:
+                return None
+            self.rest += os.read(self.told, 4096)
+        line, self.rest = self.rest.split(b"\n", 1)
+        return int(line)
+
+    def count(self, file, patience):
+        """The instructions for this file; None where it takes too long, and then the program is started anew."""
+        self.process.stdin.write(file)
+        for _ in range(self.reads):
+            number = self.number(patience)
+        if number is None:
+            self.start()
+            return None
+        took, self.so_far = number - self.so_far, number
+        return took
 
 
-START = counted(OURS, b"")[0], counted(PEER, b"")[0]
+SMALLEST = [0, [[10, 1, [[5, 1, 5, []]]]]]
+ours, peer = Counted(OURS, 2), Counted(PEER, 1)
 
 
-def ratio(table):
-    frames = frame(table)
-    (ours, text), (peer, wanted) = counted(OURS, frames), counted(PEER, frames)
-    if text != wanted:
-        print("the two differ on", table, flush=True)
-    ours, peer = ours - START[0], peer - START[1]
-    # A table that takes the peer long is not worth the time: the small ones come nearest.
-    return (ours / peer if peer < 3_000_000 else 0, ours, peer)
+def ratio(table, least, most):
+    """Ours against the peer's, with both; 0 where the peer takes less or more than it should: the search keeps to one size."""
+    file = frame(table)
+    if len(file) > 4000:
+        return (0, 0, 0)
+    of_peer = peer.count(file, 0.6)
+    if of_peer is None or not least <= of_peer < most:
+        return (0, 0, of_peer or 0)
+    of_ours = ours.count(file, 5)
+    return (of_ours / of_peer, of_ours, of_peer) if of_ours else (99, 0, of_peer)
 
 
 def some_task(resources):
@@ -154,16 +196,54 @@ def changed(table):
     return table
 
 
-worst, tried, end = [], 0, time.time() + float(seconds)
+KINDS = [some_table, sparse_table, climbing_table, flowing_table]
+
+
+class Search:
+    """Twelve tables, each changed again and again and kept where it gets worse; one that does not for long gives way to a new one."""
+
+    def __init__(self, name, least, most):
+        self.name, self.least, self.most, self.climbing, self.given_up, self.tried = name, least, most, [], [], 0
+
+    def found(self, table):
+        self.tried += 1
+        return [ratio(table, self.least, self.most), table, 0]
+
+    def step(self):
+        if len(self.climbing) < 12:
+            self.climbing.append(max((self.found(chance.choice(KINDS)()) for _ in range(40)), key=lambda one: one[0][0]))
+            return
+        at = chance.randrange(12)
+        now = self.climbing[at]
+        table = now[1]
+        for _ in range(chance.choice([1, 1, 1, 2, 2, 3])):
+            table = changed(table)
+        then = self.found(table)
+        if then[0][0] < now[0][0]:
+            then = now
+        then[2] = now[2] + 1 if then[0][0] <= now[0][0] + 0.0001 else 0
+        self.climbing[at] = then
+        if then[2] > 2500:
+            self.given_up.append(self.climbing.pop(at))
+
+    def worst(self):
+        return sorted(self.climbing + self.given_up, key=lambda one: -one[0][0])[:4]
+
+
+def text(program, table):
+    return subprocess.run(["qemu-x86_64"] + program, input=frame(table), capture_output=True).stdout
+
+
+searches = [Search("small", 2_000, 15_000), Search("long", 15_000, 3_000_000)]
+end = time.time() + float(seconds)
 while time.time() < end:
-    fresh = len(worst) < 8 or chance.random() < 0.12
-    table = chance.choice([some_table, sparse_table, climbing_table, flowing_table])() if fresh else changed(chance.choice(worst[:15])[1])
-    tried += 1
-    if all(table != known for _, known in worst):
-        worst.append((ratio(table), table))
-        worst.sort(key=lambda found: -found[0][0])
-        del worst[60:]
-print(f"{tried} tables tried; the worst:")
-for (share, ours, peer), table in worst[:3]:
-    print(f"{share:.3f} {ours} {peer} M {table[0]}, subsystems (P, Q, tasks (T, C, D, accesses)): {table[1]}")
-open(out, "wb").write(frame(worst[0][1]))
+    for search in searches:
+        search.step()
+for search in searches:
+    print(f"{search.name}: {search.tried} tables tried; the worst, ours / peer with both counts:")
+    for (share, of_ours, of_peer), table, _ in search.worst():
+        print(f"{share:.3f} {of_ours} {of_peer} {json.dumps(table)}")
+        if text(OURS, table) != text(PEER, table):
+            print("the two differ on it")
+worst = max((one for search in searches for one in search.worst()), key=lambda one: one[0][0])
+open(out, "wb").write(frame(worst[1]))
