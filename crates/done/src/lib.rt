@@ -1,13 +1,14 @@
 // The row of a subsystem whose jobs end when they are done: it holds nothing, and they end with their budgets; or it holds one resource
 // alone, which shuts no higher subsystem out. The active period ends with the first job that is done by the next one's release, so that it
 // is found on the way from job to job and need not be searched for. Every function here is proved, and the crate assumes nothing.
+use job::HORIZON;
 use job::Job;
 use job::Own;
 use job::Worst;
 use job::worse;
 use numbers::wide;
 use row::Row;
-use row::judge;
+use row::row_with;
 use row::row_without;
 use search::least_after;
 use table::Table;
@@ -92,7 +93,6 @@ pub fn row_by_jobs(
     holdings: &[u32],
     ceilings: &[usize],
     own: Own,
-    failing: u32,
     first: u32,
     firsts: [u32; Table::MOST],
     resource: u32,
@@ -101,7 +101,7 @@ pub fn row_by_jobs(
     requires { ⌜ Ends-done (seenBy (now periods) (now costs) (now holdings) (now ceilings) own) resource ⌝ }
     requires { ⌜ First-done (seenBy (now periods) (now costs) (now holdings) (now ceilings) own) firsts first ⌝ }
     requires { ⌜ Frees (now periods) (now costs) (now frees) (own .place + 1) ⌝ }
-    ensures { λ r. ⌜ r ≡ rowFor (seenBy (now (periods .entry)) (now (costs .entry)) (now (holdings .entry)) (now (ceilings .entry)) own) failing (activePeriod (seenBy (now (periods .entry)) (now (costs .entry)) (now (holdings .entry)) (now (ceilings .entry)) own)) ⌝ }
+    ensures { λ r. ⌜ r ≡ rowFor (seenBy (now (periods .entry)) (now (costs .entry)) (now (holdings .entry)) (now (ceilings .entry)) own) (own .failing) (activePeriod (seenBy (now (periods .entry)) (now (costs .entry)) (now (holdings .entry)) (now (ceilings .entry)) own)) ⌝ }
 {
     let s = own.place;
     let more = costs[s];
@@ -115,19 +115,9 @@ pub fn row_by_jobs(
     let mut k: u32 = 0;
     let mut release = own.period;
     while release < end {
-        end = least_after(
-            periods,
-            costs,
-            frees,
-            s,
-            &mut ends,
-            end,
-            more,
-            0,
-            Table::HORIZON,
-        );
-        if Table::HORIZON < end {
-            return row_without(own, more, failing);
+        end = least_after(periods, costs, frees, s, &mut ends, end, more, 0, HORIZON);
+        if HORIZON < end {
+            return row_without(own, more);
         }
         k += 1;
         let response = end - release;
@@ -139,16 +129,7 @@ pub fn row_by_jobs(
         worst = worse(worst, job, k);
         release += own.period;
     }
-    Row {
-        holding: more - own.budget,
-        failing,
-        blocking: own.blocking,
-        active: end,
-        jobs: k + 1,
-        job: worst.job,
-        resource: worst.resource,
-        outcome: judge(own.period, worst.response),
-    }
+    row_with(own, more, end, k + 1, worst)
 }
 
 // The same from the end of the first budget, for a subsystem that holds one resource alone: job 0 is done with what it may hold besides.
@@ -159,7 +140,6 @@ pub fn row_alone(
     holdings: &[u32],
     ceilings: &[usize],
     own: Own,
-    failing: u32,
     first: u32,
     firsts: [u32; Table::MOST],
     lone: u32,
@@ -168,25 +148,15 @@ pub fn row_alone(
     requires { ⌜ (1 ≤ lone) × Alone (now holdings) (now ceilings) (own .place) (lone - 1) ⌝ }
     requires { ⌜ First-end (seenBy (now periods) (now costs) (now holdings) (now ceilings) own) firsts first ⌝ }
     requires { ⌜ Frees (now periods) (now costs) (now frees) (own .place + 1) ⌝ }
-    ensures { λ r. ⌜ r ≡ rowFor (seenBy (now (periods .entry)) (now (costs .entry)) (now (holdings .entry)) (now (ceilings .entry)) own) failing (activePeriod (seenBy (now (periods .entry)) (now (costs .entry)) (now (holdings .entry)) (now (ceilings .entry)) own)) ⌝ }
+    ensures { λ r. ⌜ r ≡ rowFor (seenBy (now (periods .entry)) (now (costs .entry)) (now (holdings .entry)) (now (ceilings .entry)) own) (own .failing) (activePeriod (seenBy (now (periods .entry)) (now (costs .entry)) (now (holdings .entry)) (now (ceilings .entry)) own)) ⌝ }
 {
     let s = own.place;
     let cost = costs[s];
     let held = cost - own.budget;
     let mut ends = firsts;
-    let done = least_after(
-        periods,
-        costs,
-        frees,
-        s,
-        &mut ends,
-        first,
-        held,
-        0,
-        Table::HORIZON,
-    );
-    if Table::HORIZON < done {
-        return row_without(own, cost, failing);
+    let done = least_after(periods, costs, frees, s, &mut ends, first, held, 0, HORIZON);
+    if HORIZON < done {
+        return row_without(own, cost);
     }
     row_by_jobs(
         periods,
@@ -195,7 +165,6 @@ pub fn row_alone(
         holdings,
         ceilings,
         own,
-        failing,
         done,
         ends,
         lone,

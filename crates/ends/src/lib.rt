@@ -1,6 +1,7 @@
 // The jobs of one subsystem by number: how many there are, where the budget of each ends, and where each ends with a
 // resource. The rows of crate `global` go through all of them; this is for whoever asks about one. Every function here is
 // proved, and the crate assumes nothing.
+use job::HORIZON;
 use least::demand_in;
 use least::round_up;
 use numbers::wide;
@@ -73,9 +74,9 @@ pub fn jobs_of(
         1,
         blocking + once - 1,
         0,
-        Table::HORIZON,
+        HORIZON,
     );
-    if Table::HORIZON < active {
+    if HORIZON < active {
         return 0;
     }
     round_up(active, periods[s])

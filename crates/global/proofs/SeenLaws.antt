@@ -61,18 +61,19 @@ module _ (n m : ℕ) (lines : List (List ℕ)) (s : ℕ) (h : s < n) where
       ap (upTo (led (held (viewOf (interfacesIn n m lines) s)) (ceiling (viewOf (interfacesIn n m lines) s)) (resources (viewOf (interfacesIn n m lines) s)))) (sym r)
 
   -- Its own numbers.
-  pub own-is : {p q b : ℕ} → p ≡ periodAt lines s → q ≡ budgetAt lines s → b ≡ blocking (interfacesIn n m lines) s → _≡_ {A = Own} (record { place = s; period = p; budget = q; blocking = b }) (record { place = s; period = periodOf (interfacesIn n m lines) s; budget = budgetOf (interfacesIn n m lines) s; blocking = blocking (interfacesIn n m lines) s })
-  own-is ep eq eb =
+  pub own-is : {p q b f : ℕ} → p ≡ periodAt lines s → q ≡ budgetAt lines s → b ≡ blocking (interfacesIn n m lines) s → _≡_ {A = Own} (record { place = s; period = p; budget = q; blocking = b; failing = f }) (record { place = s; period = periodOf (interfacesIn n m lines) s; budget = budgetOf (interfacesIn n m lines) s; blocking = blocking (interfacesIn n m lines) s; failing = f })
+  own-is {f = f} ep eq eb =
       λ i.
       record {
         place = s;
         period = (ep ∙ sym (period-of-slot n m lines s h)) i;
         budget = (eq ∙ sym (budget-of-slot n m lines s h)) i;
         blocking = eb i;
+        failing = f;
       }
 
 -- All of it together.
-module _ (g : InterfacesM) (sound : Sound g) (s : ℕ) (h : s < count g) {p c x r : List ℕ} {own : Own} (ep : p ≡ periods g) (ec : c ≡ costs g) (ex : x ≡ ledView (viewOf g s) .holdings) (er : r ≡ upTo (outerCeiling g) (g .resources)) (eo : own ≡ record { place = s; period = periodOf g s; budget = budgetOf g s; blocking = blocking g s }) where
+module _ (g : InterfacesM) (sound : Sound g) (s : ℕ) (h : s < count g) {p c x r : List ℕ} {own : Own} {f : ℕ} (ep : p ≡ periods g) (ec : c ≡ costs g) (ex : x ≡ ledView (viewOf g s) .holdings) (er : r ≡ upTo (outerCeiling g) (g .resources)) (eo : own ≡ record { place = s; period = periodOf g s; budget = budgetOf g s; blocking = blocking g s; failing = f }) where
   seen-is : seenBy p c x r own ≡ ledView (viewOf g s)
   unfolding viewOf
   seen-is = λ i. seenBy (ep i) (ec i) (ex i) (er i) (eo i)

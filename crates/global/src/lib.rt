@@ -6,6 +6,7 @@ use done::nearly_all;
 use done::on_the_way;
 use done::row_alone;
 use done::row_by_jobs;
+use job::HORIZON;
 use job::Own;
 use least::REACH;
 use least::demand_in;
@@ -19,7 +20,7 @@ use outer::interfaces::period;
 use outer::leading::leading;
 use responses::largest_response;
 use row::Row;
-use row::judge;
+use row::row_with;
 use row::row_without;
 use search::least_after;
 use table::Table;
@@ -49,7 +50,6 @@ fn active_row(
     holdings: &[u32],
     ceilings: &[usize],
     own: Own,
-    failing: u32,
     active: u32,
     first: u32,
     ends: [u32; Table::MOST],
@@ -58,7 +58,7 @@ fn active_row(
     requires { ⌜ activePeriod (seenBy (now periods) (now costs) (now holdings) (now ceilings) own) ≡ some active ⌝ }
     requires { ⌜ First-end (seenBy (now periods) (now costs) (now holdings) (now ceilings) own) ends first ⌝ }
     requires { ⌜ Frees (now periods) (now costs) (now frees) (own .place + 1) ⌝ }
-    ensures { λ r. ⌜ r ≡ rowFor (seenBy (now (periods .entry)) (now (costs .entry)) (now (holdings .entry)) (now (ceilings .entry)) own) failing (some active) ⌝ }
+    ensures { λ r. ⌜ r ≡ rowFor (seenBy (now (periods .entry)) (now (costs .entry)) (now (holdings .entry)) (now (ceilings .entry)) own) (own .failing) (some active) ⌝ }
 {
     let s = own.place;
     let n = round_up(active, own.period);
@@ -74,16 +74,7 @@ fn active_row(
         first,
         ends,
     );
-    Row {
-        holding: costs[s] - own.budget,
-        failing,
-        blocking: own.blocking,
-        active,
-        jobs: n,
-        job: worst.job,
-        resource: worst.resource,
-        outcome: judge(own.period, worst.response),
-    }
+    row_with(own, costs[s], active, n, worst)
 }
 
 // Whether the active period may be far: the first budget ends some periods late, or it ends after the next release and the shares that the
@@ -107,7 +98,7 @@ fn may_be_far(periods: &[u32], costs: &[u32], own: Own, first: u32) -> bool
     if wide(REACH) <= once {
         return true;
     }
-    Table::HORIZON < standing(once as u32, spare)
+    HORIZON < standing(once as u32, spare)
 }
 
 // Where the search for the active period may stand: what blocks reaches as far as the subsystems leave free of every tick. Only where it
@@ -159,108 +150,88 @@ fn active_from(
         first,
         more,
         start,
-        Table::HORIZON,
+        HORIZON,
+    )
+}
+
+// The row of a subsystem whose active period is searched for before its jobs, from the first budget end. Where nothing is held and nearly all
+// jobs have to be looked at all the same, they are gone through as on the way.
+fn row_searched(
+    periods: &[u32],
+    costs: &[u32],
+    frees: &[u32],
+    held: &[u32],
+    ceilings: &[usize],
+    own: Own,
+    first: u32,
+    ends: [u32; Table::MOST],
+    far: bool,
+) -> Row
+    requires { ⌜ Sound-view (seenBy (now periods) (now costs) (now held) (now ceilings) own) ⌝ }
+    requires { ⌜ First-end (seenBy (now periods) (now costs) (now held) (now ceilings) own) ends first ⌝ }
+    requires { ⌜ Frees (now periods) (now costs) (now frees) (own .place + 1) ⌝ }
+    ensures { λ r. ⌜ r ≡ rowFor (seenBy (now (periods .entry)) (now (costs .entry)) (now (held .entry)) (now (ceilings .entry)) own) (own .failing) (activePeriod (seenBy (now (periods .entry)) (now (costs .entry)) (now (held .entry)) (now (ceilings .entry)) own)) ⌝ }
+{
+    let s = own.place;
+    let cost = costs[s];
+    let active = active_from(periods, costs, frees, held, ceilings, own, first, ends, far);
+    if HORIZON < active {
+        return row_without(own, cost);
+    }
+    if nearly_all(own, cost, first, active) {
+        return row_by_jobs(periods, costs, frees, held, ceilings, own, first, ends, 0);
+    }
+    active_row(
+        periods,
+        costs,
+        frees,
+        held,
+        ceilings,
+        own,
+        active,
+        first,
+        ends,
     )
 }
 
 // The row from what the subsystem has before it. Only the first `fits` subsystems ask for no more than every tick has; for one
-// behind them nothing is searched. Else the first budget end is, and the active period from there; where nothing is held, or one
-// resource alone, that is found on the way from job to job, unless it may be far: then one search passes over them all, and tells
-// whether there is an active period and whether most jobs are settled early.
+// behind them nothing is searched. Else the first budget end is. From there, where nothing is held, or one resource alone, the active
+// period is found on the way from job to job, unless it may be far: then one search passes over them all, and tells whether there is
+// one and whether most jobs are settled early.
 fn row_seen(
     periods: &[u32],
     costs: &[u32],
     frees: &[u32],
-    holdings: &[u32],
+    held: &[u32],
     ceilings: &[usize],
     own: Own,
-    failing: u32,
     fits: usize,
 ) -> Row
-    requires { ⌜ Sound-view (seenBy (now periods) (now costs) (now holdings) (now ceilings) own) ⌝ }
-    requires { ⌜ (fits ≤ own .place → activePeriod (seenBy (now periods) (now costs) (now holdings) (now ceilings) own) ≡ none) ⌝ }
+    requires { ⌜ Sound-view (seenBy (now periods) (now costs) (now held) (now ceilings) own) ⌝ }
+    requires { ⌜ (fits ≤ own .place → activePeriod (seenBy (now periods) (now costs) (now held) (now ceilings) own) ≡ none) ⌝ }
     requires { ⌜ Frees (now periods) (now costs) (now frees) (own .place + 1) ⌝ }
-    ensures { λ r. ⌜ r ≡ rowFor (seenBy (now (periods .entry)) (now (costs .entry)) (now (holdings .entry)) (now (ceilings .entry)) own) failing (activePeriod (seenBy (now (periods .entry)) (now (costs .entry)) (now (holdings .entry)) (now (ceilings .entry)) own)) ⌝ }
+    ensures { λ r. ⌜ r ≡ rowFor (seenBy (now (periods .entry)) (now (costs .entry)) (now (held .entry)) (now (ceilings .entry)) own) (own .failing) (activePeriod (seenBy (now (periods .entry)) (now (costs .entry)) (now (held .entry)) (now (ceilings .entry)) own)) ⌝ }
 {
     let s = own.place;
     let cost = costs[s];
     if fits <= s {
-        return row_without(own, cost, failing);
+        return row_without(own, cost);
     }
     let mut ends = [0u32; Table::MOST];
     let ahead = own.blocking + own.budget;
-    let first = least_after(
-        periods,
-        costs,
-        frees,
-        s,
-        &mut ends,
-        0,
-        ahead,
-        0,
-        Table::HORIZON,
-    );
-    if Table::HORIZON < first {
-        return row_without(own, cost, failing);
+    let first = least_after(periods, costs, frees, s, &mut ends, 0, ahead, 0, HORIZON);
+    if HORIZON < first {
+        return row_without(own, cost);
     }
     let far = may_be_far(periods, costs, own, first);
-    let lone = lone_on_the_way(holdings, ceilings, own, cost, far);
-    if lone != 0 {
-        return row_alone(
-            periods,
-            costs,
-            frees,
-            holdings,
-            ceilings,
-            own,
-            failing,
-            first,
-            ends,
-            lone,
-        );
+    let res = lone_on_the_way(held, ceilings, own, cost, far);
+    if res != 0 {
+        return row_alone(periods, costs, frees, held, ceilings, own, first, ends, res);
     }
-    if !on_the_way(own, cost, far) {
-        let active = active_from(
-            periods,
-            costs,
-            frees,
-            holdings,
-            ceilings,
-            own,
-            first,
-            ends,
-            far,
-        );
-        if Table::HORIZON < active {
-            return row_without(own, cost, failing);
-        }
-        if !nearly_all(own, cost, first, active) {
-            return active_row(
-                periods,
-                costs,
-                frees,
-                holdings,
-                ceilings,
-                own,
-                failing,
-                active,
-                first,
-                ends,
-            );
-        }
+    if on_the_way(own, cost, far) {
+        return row_by_jobs(periods, costs, frees, held, ceilings, own, first, ends, 0);
     }
-    row_by_jobs(
-        periods,
-        costs,
-        frees,
-        holdings,
-        ceilings,
-        own,
-        failing,
-        first,
-        ends,
-        0,
-    )
+    row_searched(periods, costs, frees, held, ceilings, own, first, ends, far)
 }
 
 // The row of subsystem s, with the number of its first failing task, 0 for none. What all rows share is lent, since a struct would be
@@ -290,15 +261,7 @@ pub fn row_of(
         period: period(lines, s),
         budget: budget(lines, s),
         blocking: blocked,
-    };
-    row_seen(
-        periods,
-        costs,
-        frees,
-        &held[..m],
-        ceilings,
-        own,
         failing,
-        fits,
-    )
+    };
+    row_seen(periods, costs, frees, &held[..m], ceilings, own, fits)
 }

@@ -16,12 +16,16 @@ ghost use Rattle.job.specs.Ends.{budgetEnd};
 ghost use Rattle.job.specs.Computed.{seenBy, Budget-over, bestOf, jobOf};
 ghost use Rattle.job.specs.Sound.{Sound-view, Counted};
 
-// What a subsystem knows of itself: s, P(s), Q(s) and B(s).
+// The last tick at which an active period may end, and so the last at which any search does.
+pub const HORIZON: u32 = Table::HORIZON;
+
+// What a subsystem knows of itself: s, P(s), Q(s), B(s) and the number of its first failing task, 0 for none, which only its row tells.
 pub struct Own {
     pub place: usize,
     pub period: u32,
     pub budget: u32,
     pub blocking: u32,
+    pub failing: u32,
 }
 
 // The largest value so far, and the first place that has it.

@@ -1,5 +1,6 @@
 // A subsystem's row and its outcome (step 11), and what both are made of. Every function here is proved, and the crate assumes nothing.
 use job::Own;
+use job::Worst;
 ghost use mathlib.Core.Path.{_≡_};
 ghost use Prim.Native.Nat.{_-_, _≤_};
 ghost use Rattle.row.specs.declared.Outcome.the-variants.{None};
@@ -26,7 +27,7 @@ pub struct Row {
 }
 
 // A row fits where its response is within the period, else it is late.
-pub fn judge(period: u32, response: u32) -> Outcome
+fn judge(period: u32, response: u32) -> Outcome
     ensures { λ r. ⌜ r ≡ judged period response ⌝ }
 {
     if response <= period {
@@ -36,14 +37,31 @@ pub fn judge(period: u32, response: u32) -> Outcome
     }
 }
 
-// The row without an active period: X and B stand and the rest is 0.
-pub fn row_without(own: Own, cost: u32, failing: u32) -> Row
+// The row with an active period, from what its jobs have come to.
+pub fn row_with(own: Own, cost: u32, active: u32, jobs: u32, worst: Worst) -> Row
     requires { ⌜ own .budget ≤ cost ⌝ }
-    ensures { λ r. ⌜ r ≡ record { holding = cost - own .budget; failing = failing; blocking = own .blocking; active = 0; jobs = 0; job = 0; resource = 0; outcome = None } ⌝ }
+    ensures { λ r. ⌜ r ≡ record { holding = cost - own .budget; failing = own .failing; blocking = own .blocking; active = active; jobs = jobs; job = worst .job; resource = worst .resource; outcome = judged (own .period) (worst .response) } ⌝ }
 {
     Row {
         holding: cost - own.budget,
-        failing,
+        failing: own.failing,
+        blocking: own.blocking,
+        active,
+        jobs,
+        job: worst.job,
+        resource: worst.resource,
+        outcome: judge(own.period, worst.response),
+    }
+}
+
+// The row without an active period: X and B stand and the rest is 0.
+pub fn row_without(own: Own, cost: u32) -> Row
+    requires { ⌜ own .budget ≤ cost ⌝ }
+    ensures { λ r. ⌜ r ≡ record { holding = cost - own .budget; failing = own .failing; blocking = own .blocking; active = 0; jobs = 0; job = 0; resource = 0; outcome = None } ⌝ }
+{
+    Row {
+        holding: cost - own.budget,
+        failing: own.failing,
         blocking: own.blocking,
         active: 0,
         jobs: 0,

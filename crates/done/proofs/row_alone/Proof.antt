@@ -29,7 +29,7 @@ returns : tie.Need-returns
 returns c =
     let s = c .before .before .before .before .before .before .before .before .before .before .before in
     c .row-without .ensures ∙
-    row-without _ (s .args .failing) (overrun-computed _ (s .pre .0)) (never-done _ (s .pre .0) (s .pre .1 .1 .0) (overrun-computed _ (s .pre .0)) (c .before .before .least-after .ensures .0) (c .before .if1 .taken))
+    row-without _ (s .args .own .failing) (overrun-computed _ (s .pre .0)) (never-done _ (s .pre .0) (s .pre .1 .1 .0) (overrun-computed _ (s .pre .0)) (c .before .before .least-after .ensures .0) (c .before .if1 .taken))
 
 row-by-jobs-requires : tie.Need-row-by-jobs-requires
 row-by-jobs-requires c κs =

@@ -4,7 +4,7 @@ use Prim.Native.Nat.{ℕ, _+_, _-_, _*_, _≤_, _<_}
 use native.Mathlib.Nat.{mul-le-mul-left, suc-mul}
 use native.Mathlib.Numerals.{add-one}
 use native.Mathlib.Omega.{arith}
-use mathlib.Core.Path.{_≡_, sym, ap, _∙_}
+use mathlib.Core.Path.{_≡_, refl, sym, ap, _∙_}
 use borrow.Author.Needs.{needs}
 use Rattle.table.specs.Limits.{horizon}
 use Rattle.job.specs.View.{View}
@@ -18,11 +18,11 @@ use Rattle.done.proofs.row_by_jobs.Statement.{statement}
 use Rattle.done.proofs.row_by_jobs.Tie as tie
 
 abbrev Inv-loop : tie.InvT-loop
-Inv-loop periods costs frees holdings ceilings own failing first resource s more worst₀ ends₀ end₀ k₀ release₀ worst ends end k release =
+Inv-loop periods costs frees holdings ceilings own first resource s more worst₀ ends₀ end₀ k₀ release₀ worst ends end k release =
     Reached (seenBy periods costs holdings ceilings own) k end ends × (release ≡ (k + 1) * own .period) × (worst ≡ worstOf (seenBy periods costs holdings ceilings own) (k + 1))
 
 abbrev μ-loop : tie.MeasureT-loop
-μ-loop periods costs frees holdings ceilings own failing first resource s more worst₀ ends₀ end₀ k₀ release₀ worst ends end k release =
+μ-loop periods costs frees holdings ceilings own first resource s more worst₀ ends₀ end₀ k₀ release₀ worst ends end k release =
     horizon + 1 - k
 
 -- What the arguments say.
@@ -86,7 +86,7 @@ returns c =
     let i = g .before .before in
     let s = entry (at i) in
     c .row-without .ensures ∙
-    row-without (view s) (s .args .failing) (overrun-computed (view s) (s .pre .0)) (nothing-reached (view s) (s .pre .0) (at i .loop .inv .0) (late i) (g .least-after .ensures .0) (c .before .if1 .taken))
+    row-without (view s) (s .args .own .failing) (overrun-computed (view s) (s .pre .0)) (nothing-reached (view s) (s .pre .0) (at i .loop .inv .0) (late i) (g .least-after .ensures .0) (c .before .if1 .taken))
 
 add-k : tie.Need-add-k Inv-loop μ-loop
 add-k c = record { fits = omega (arith, few-jobs (at (c .before .before .before))) }
@@ -120,25 +120,22 @@ loop-again c =
       worst-step (view s) (k + 1) (l .loop .inv .2) (job-reached (view s) (s .pre .1 .0) r (omega (arith, l .loop .inv .1))) (c .before .worse .ensures),
     )
 
-sub-t22 : tie.Need-sub-t22 Inv-loop μ-loop
-sub-t22 c =
-    let s = entry (c .before .before) in
+add-row-with : tie.Need-add-row-with Inv-loop μ-loop
+add-row-with c = record { fits = omega (arith, few-jobs (c .before)) }
+
+row-with-requires : tie.Need-row-with-requires Inv-loop μ-loop
+row-with-requires c κs =
+    let s = entry (c .before) in
     budget-below (view s) (s .pre .0)
-
-add-t25 : tie.Need-add-t25 Inv-loop μ-loop
-add-t25 c = record { fits = omega (arith, few-jobs (c .before .before)) }
-
-judge-requires : tie.Need-judge-requires Inv-loop μ-loop
-judge-requires c κs = search needs
 
 returns-2 : tie.Need-returns-2 Inv-loop μ-loop
 returns-2 c =
-    let l = c .before .before .before in
+    let l = c .before .before in
     let s = entry l in
     let r = l .loop .inv .0 in
-    let over : l .loop .end ≤ (l .loop .k + 1) * s .args .own .period = omega (arith, c .before .before .loop-test .left, l .loop .inv .1) in
-    row-with (view s) (s .args .failing) (l .loop .end) (overrun-computed (view s) (s .pre .0)) (last-job (view s) (s .pre .0) r over) (l .loop .inv .2) (c .judge .ensures) ∙
-    ap (rowFor (view s) (s .args .failing)) (sym (active-reached (view s) (s .pre .0) r over))
+    let over : l .loop .end ≤ (l .loop .k + 1) * s .args .own .period = omega (arith, c .before .loop-test .left, l .loop .inv .1) in
+    c .row-with .ensures ∙ row-with (view s) (s .args .own .failing) (l .loop .end) (overrun-computed (view s) (s .pre .0)) (last-job (view s) (s .pre .0) r over) (l .loop .inv .2) refl ∙
+    ap (rowFor (view s) (s .args .own .failing)) (sym (active-reached (view s) (s .pre .0) r over))
 
 pub row-by-jobs-spec : {M : Type 1} → statement M
 row-by-jobs-spec =
@@ -158,7 +155,6 @@ row-by-jobs-spec =
     add-release
     loop-less
     loop-again
-    sub-t22
-    add-t25
-    judge-requires
+    add-row-with
+    row-with-requires
     returns-2)

@@ -60,14 +60,14 @@ row-seen-requires : tie.Need-row-seen-requires
 row-seen-requires c κs =
     let s = c .before .before .before .before .before .before .before .before in
     let lent = s .pre .1 .0 in
-    let sound = seen-sound (interfacesIn (s .args .n) (s .args .m) (now (s .args .lines))) (s .pre .0 .0) (s .args .s) (in-use s) (lent .periods-are) (lent .costs-are) (led-part (s .args .n) (s .args .m) (now (s .args .lines)) (s .args .s) (s .pre .0 .1) _ (ceilings-used s) (c .before .before .before .leading .ensures)) (lent .ceilings-are) (own-is (s .args .n) (s .args .m) (now (s .args .lines)) (s .args .s) (s .pre .0 .1) (c .before .before .period .ensures) (c .before .budget .ensures) (s .pre .1 .1 .1 .0)) in
+    let sound = seen-sound (interfacesIn (s .args .n) (s .args .m) (now (s .args .lines))) (s .pre .0 .0) (s .args .s) (in-use s) (lent .periods-are) (lent .costs-are) (led-part (s .args .n) (s .args .m) (now (s .args .lines)) (s .args .s) (s .pre .0 .1) _ (ceilings-used s) (c .before .before .before .leading .ensures)) (lent .ceilings-are) (own-is (s .args .n) (s .args .m) (now (s .args .lines)) (s .args .s) (s .pre .0 .1) {f = s .args .failing} (c .before .before .period .ensures) (c .before .budget .ensures) (s .pre .1 .1 .1 .0)) in
     (sound, ((λ h. never-active _ sound (s .pre .1 .1 .1 .1) (s .pre .0 .1) h), s .pre .1 .1 .0))
 
 returns : tie.Need-returns
 returns c =
     let s = c .before .before .before .before .before .before .before .before .before in
     let lent = s .pre .1 .0 in
-    seen-row (interfacesIn (s .args .n) (s .args .m) (now (s .args .lines))) (s .pre .0 .0) (s .args .s) (in-use s) (lent .periods-are) (lent .costs-are) (led-part (s .args .n) (s .args .m) (now (s .args .lines)) (s .args .s) (s .pre .0 .1) _ (ceilings-used s) (c .before .before .before .before .leading .ensures)) (lent .ceilings-are) (own-is (s .args .n) (s .args .m) (now (s .args .lines)) (s .args .s) (s .pre .0 .1) (c .before .before .before .period .ensures) (c .before .before .budget .ensures) (s .pre .1 .1 .1 .0)) (s .args .failing) (c .row-seen .ensures)
+    seen-row (interfacesIn (s .args .n) (s .args .m) (now (s .args .lines))) (s .pre .0 .0) (s .args .s) (in-use s) (lent .periods-are) (lent .costs-are) (led-part (s .args .n) (s .args .m) (now (s .args .lines)) (s .args .s) (s .pre .0 .1) _ (ceilings-used s) (c .before .before .before .before .leading .ensures)) (lent .ceilings-are) (own-is (s .args .n) (s .args .m) (now (s .args .lines)) (s .args .s) (s .pre .0 .1) {f = s .args .failing} (c .before .before .before .period .ensures) (c .before .before .budget .ensures) (s .pre .1 .1 .1 .0)) (s .args .failing) (c .row-seen .ensures)
 
 pub row-of-spec : {M : Type 1} → statement M
 row-of-spec =
