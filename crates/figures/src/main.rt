@@ -59,11 +59,13 @@ fn response(t: Table, s: u8, k: u32, l: u8, period: u32) -> u64 {
     numbers::monus(end(t, s, k, l), wide(k) * wide(period))
 }
 
-fn jobs_of_a() {
-    let t = tables::table_a(134, 4);
+fn ends_of_job_0(t: Table) {
     print::figure(b"A subsystem 3 job 0 resource 1 ends at: ", end(t, 3, 0, 1));
     print::figure(b"A subsystem 3 job 0 resource 2 ends at: ", end(t, 3, 0, 2));
     print::figure(b"A subsystem 3 job 0 budget ends at: ", end(t, 3, 0, 0));
+}
+
+fn responses_of_job_1(t: Table) {
     print::figure(
         b"A subsystem 3 job 1 resource 1 responds in: ",
         response(t, 3, 1, 1, 70),
@@ -72,6 +74,12 @@ fn jobs_of_a() {
         b"A subsystem 3 job 1 resource 2 responds in: ",
         response(t, 3, 1, 2, 70),
     );
+}
+
+fn jobs_of_a() {
+    let t = tables::table_a(134, 4);
+    ends_of_job_0(t);
+    responses_of_job_1(t);
 }
 
 // The row of subsystem s, from 1.
@@ -131,16 +139,21 @@ fn inner_ceiling(sub: Subsystem) -> u64
 }
 
 // X of two tasks, and what a second access to the resource changes.
+// X of subsystem 1, alone in its table with one resource.
+fn holding_of(sub: Subsystem) -> u64 {
+    let alone = row(report::analyse(tables::of_one(1, sub)), 1);
+    wide(alone.holding)
+}
+
 fn holdings() {
-    let second = row(
-        report::analyse(tables::of_one(1, tables::two_tasks(0, 2))),
-        1,
+    let second = tables::two_tasks(0, 2);
+    print::figure(b"task 2 with c 2: X ", holding_of(second));
+    let both = tables::two_tasks(1, 2);
+    print::figure(
+        b"task 1 with c 1, task 2 with c 2: rc ",
+        inner_ceiling(both),
     );
-    print::figure(b"task 2 with c 2: X ", wide(second.holding));
-    let sub = tables::two_tasks(1, 2);
-    print::figure(b"task 1 with c 1, task 2 with c 2: rc ", inner_ceiling(sub));
-    let both = row(report::analyse(tables::of_one(1, sub)), 1);
-    print::figure(b"task 1 with c 1, task 2 with c 2: X ", wide(both.holding));
+    print::figure(b"task 1 with c 1, task 2 with c 2: X ", holding_of(both));
 }
 
 fn judgements() {
