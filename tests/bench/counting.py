@@ -1,5 +1,5 @@
 """Counts executed instructions file by file, in programs that go on from one to the next: our bay_many and the peer's fast engine under
-qemu-user with the plugin step.c. A table is [M, subsystems], a subsystem [P, Q, tasks], a task [T, C, D, accesses]."""
+qemu-user with the plugin count.c. A table is [M, subsystems], a subsystem [P, Q, tasks], a task [T, C, D, accesses]."""
 import os
 import select
 import struct
@@ -69,4 +69,5 @@ class Counted:
 def programs(work, lib, bay_many):
     """The command lines of both programs, and both running: ours reads a file's length and the file, the peer all that there is."""
     ours, peer = [lib + "/ld-linux-x86-64.so.2", "--library-path", lib, bay_many], [work + "/peer", "fast"]
-    return (ours, peer), (Counted(work + "/step.so", ours, 2), Counted(work + "/step.so", peer, 1))
+    plugin = work + "/count.so,reads=on"
+    return (ours, peer), (Counted(plugin, ours, 2), Counted(plugin, peer, 1))
