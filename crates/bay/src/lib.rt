@@ -1,6 +1,7 @@
 // The calculator for callers in other languages: four functions on numbers and byte slices. Each takes any bytes and any
 // buffer: none has a `requires`. A slice is passed as a pointer and a length; bindings/c/bay.h says the rest. Every function
 // here is proved, and the crate assumes nothing of its own.
+#![tactic(auto)]
 ghost use Rattle.std.specs.Prelude.{◌≡◌, length};
 ghost use Rattle.text.specs.Text.{buffer_after};
 ghost use Rattle.offsets.specs.Judgement.{judgement_of};

@@ -2,6 +2,7 @@
 // first. For file K a line `file K` is printed, and then what `check` prints for it. A file longer than 4,096 bytes is
 // judged by its first 4,096 and the rest is passed over. Where the bytes that a frame announces do not all come, the line
 // `broken frame K` is printed and the run ends.
+#![tactic(auto)]
 ghost use Rattle.std.specs.Prelude.{◌≡◌, ◌≤◌};
 ghost use Rattle.std.proofs.Math.ListN;
 ghost use Rattle.table.specs.Grid.{HasBlocks};

@@ -1,6 +1,7 @@
 // Rows over interfaces alone: the active period (step 7), and with crates `done` and `responses` what comes of its jobs (steps 8 to 11).
 // Interfaces, their outer ceilings and blocking are crate `outer`'s; crate `ends` asks about single jobs. Every function here
 // is proved, and the crate assumes nothing. Indices count from 0; document 01 counts from 1.
+#![tactic(auto)]
 ghost use Rattle.std.specs.Prelude.{◌≡◌, ℕ, ◌+◌, ◌-◌, ◌≤◌, ◌<◌};
 ghost use Rattle.std.proofs.Math.Option.{none, some};
 ghost use Rattle.least.specs.Demand.{total};

@@ -1,6 +1,8 @@
 // Division rounded up, loads and what they ask for, and how far on a search for a least solution of x = constant + demand of
 // loads in x ticks may stand. Steps 7, 9 and 10 of the analysis are such solutions; crate `search` finds them. Loads come as
 // a slice of periods and a slice of costs, of which the first n count. Every function here is proved, and the crate assumes nothing.
+#![tactic(auto)]
+
 ghost use Rattle.std.specs.Prelude.{◌≡◌, ◌*◌, ◌-◌, ◌/◌, ◌≤◌, ◌<◌, ◌^◌};
 ghost use Rattle.least.specs.Up.{up};
 ghost use Rattle.least.specs.Demand.{demand};

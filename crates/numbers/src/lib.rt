@@ -1,6 +1,8 @@
 // Small steps on numbers that every layer takes: a wider type, the larger of two, the longer of two times, a difference cut off at 0. Every
 // function here is proved with no proof file, and the crate assumes nothing of its own. No public function has a
 // `requires`.
+#![tactic(auto)]
+
 ghost use Rattle.std.specs.Prelude.{◌≡◌, ◌<◌, ◌-◌, max};
 
 // A count as an index.

@@ -1,6 +1,7 @@
 // The reader: `read_grid` reads any bytes into a grid that it is lent, `read_table` into a table. Every function here is
 // proved, and the crate assumes nothing of its own. `read_table` has no `requires`; whoever is lent a grid or a block asks for
 // its shape, and `table_of` for counts that a table has room for.
+#![tactic(auto)]
 use stored::ReadAnswer;
 
 mod read;

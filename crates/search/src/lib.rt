@@ -2,6 +2,7 @@
 // load is looked at by one comparison: only where x has passed that end does it ask again, and then as often as it takes to be
 // ahead of x, which its own costs move on. No load is divided for at every step. Every function here is proved, and the crate
 // assumes nothing.
+#![tactic(auto)]
 ghost use Rattle.std.specs.Prelude.{◌≡◌, ◌^◌, ◌≤◌, ◌<◌, length, get_or};
 ghost use Rattle.least.specs.Demand.{total};
 ghost use Rattle.least.specs.Search.{ComesDown, IsLeast, reach};

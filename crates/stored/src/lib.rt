@@ -2,6 +2,7 @@
 // a read gives and what a write leaves is defined here, with the theorems on both. Every function here is proved, and the
 // crate assumes nothing of its own. No function of this file has a `requires`; those of `number`, `fields` and `decode` ask for
 // the bytes that they are to read or to write, and whoever is lent a line asks for its shape.
+#![tactic(auto)]
 ghost use Rattle.std.specs.Prelude.{◌≡◌};
 ghost use Rattle.stored.specs.Judge.{fault_number};
 ghost use Rattle.stored.specs.Read.{file_refusal};

@@ -2,6 +2,8 @@
 // the shortest window that is sure to hold a number of ticks. specs/ has the formula, the ways of handing out that it
 // speaks about and the published bound; proofs/Agreement.antt says that they agree. Every function here is proved, and
 // the crate assumes nothing of its own.
+#![tactic(auto)]
+
 ghost use Rattle.std.specs.Prelude.{◌≡◌, ◌≤◌, ◌<◌, ◌^◌};
 ghost use Rattle.supply.specs.Supply.{supply};
 ghost use Rattle.supply.specs.Moment.{moment_of};

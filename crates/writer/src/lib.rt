@@ -1,6 +1,7 @@
 // The writer: how long the file of a table is, and the file at the start of a lent buffer. Each field's writer is lent
 // the part of the buffer from the next free byte on. Every function here is proved, and the crate assumes nothing of its
 // own. `write_table` and `file_length` have no `requires`.
+#![tactic(auto)]
 mod put;
 
 ghost use Rattle.std.specs.Prelude.{◌≡◌, ◌≤◌, length};
