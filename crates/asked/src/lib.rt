@@ -24,7 +24,7 @@ use table::Table;
 use table::grid::{BLOCK, LINE};
 
 // Where a job ends, or that there is nothing of the kind.
-#[derive(Drop)]
+#[derive(Clone, Copy)]
 pub enum JobEnd {
     At(u32),
     Nothing,

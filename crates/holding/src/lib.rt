@@ -14,7 +14,7 @@ use table::Table;
 use table::grid::{BLOCK, LINE, access, count, work};
 
 // X(s, l) of each resource, 0 past the last, and X(s), the largest of them.
-#[derive(Drop)]
+#[derive(Clone, Copy)]
 pub struct Held {
     pub each: [u64; Table::MOST],
     pub largest: u64,

@@ -18,7 +18,7 @@ use table::Table;
 pub const HORIZON: u32 = Table::HORIZON;
 
 // What a subsystem knows of itself: s, P(s), Q(s), B(s) and the number of its first failing task, 0 for none, which only its row tells.
-#[derive(Drop)]
+#[derive(Clone, Copy)]
 pub struct Own {
     pub place: usize,
     pub period: u32,
@@ -28,14 +28,14 @@ pub struct Own {
 }
 
 // The largest value so far, and the first place that has it.
-#[derive(Drop)]
+#[derive(Clone, Copy)]
 pub struct Best {
     pub value: u32,
     pub at: usize,
 }
 
 // A job: where its budget ends, its response, and the lowest resource, counted from 1, with which it has that response.
-#[derive(Drop)]
+#[derive(Clone, Copy)]
 pub struct Job {
     pub end: u32,
     pub response: u32,
@@ -43,7 +43,7 @@ pub struct Job {
 }
 
 // The largest response so far, the first job that has it, and that job's resource.
-#[derive(Drop)]
+#[derive(Clone, Copy)]
 pub struct Worst {
     pub response: u32,
     pub job: u32,

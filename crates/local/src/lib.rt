@@ -18,7 +18,7 @@ pub mod blocking;
 pub mod passing;
 
 // What a subsystem shares out: a budget in each period, given among the period's first `end` ticks.
-#[derive(Drop)]
+#[derive(Clone, Copy)]
 pub struct Share {
     pub period: u32,
     pub budget: u32,

@@ -9,7 +9,7 @@ pub mod judging;
 
 // What a file comes to: document 01's number and the two numbers of its place (offset and 0 for a file, subsystem and task
 // for a table); all 0 where the table is admitted.
-#[derive(Drop)]
+#[derive(Clone, Copy)]
 pub struct Judgement {
     pub number: u32,
     pub first: u32,

@@ -17,7 +17,7 @@ use table::Table;
 
 // What the rows of all subsystems share: P(s), Q(s) + X(s), what that leaves free of P(s), and B(s), of each subsystem, and RC(l) of
 // each resource. Slots past the counts are 0.
-#[derive(Drop)]
+#[derive(Clone, Copy)]
 pub struct Common {
     pub periods: [u32; Table::MOST],
     pub costs: [u32; Table::MOST],

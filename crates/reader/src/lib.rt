@@ -12,14 +12,14 @@ pub use taken::{read_table, table_of};
 
 // What the reading of one subsystem with its tasks into a block gives: its answer, and where nothing is refused the offset
 // behind it.
-#[derive(Drop)]
+#[derive(Clone, Copy)]
 pub struct Part {
     pub answer: ReadAnswer,
     pub next: usize,
 }
 
 // What the reading of a file into a grid gives: its answer, and where the file is a table its N and M.
-#[derive(Drop)]
+#[derive(Clone, Copy)]
 pub struct Head {
     pub answer: ReadAnswer,
     pub count: u8,

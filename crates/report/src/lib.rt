@@ -21,7 +21,7 @@ pub mod accepting;
 
 // The report: the judgement, whether the table is accepted, and eight rows. Where the table is refused, and past its
 // subsystems, rows are zero with outcome none.
-#[derive(Drop)]
+#[derive(Clone, Copy)]
 pub struct Report {
     pub judged: Judged,
     pub accepted: bool,

@@ -7,7 +7,7 @@ ghost use Rattle.row.specs.Row.{judged};
 use job::{Own, Worst};
 
 // How a row ends: with its response R within the period, or beyond it, or with none.
-#[derive(Drop)]
+#[derive(Clone, Copy)]
 pub enum Outcome {
     Fits(u32),
     Late(u32),
@@ -16,7 +16,7 @@ pub enum Outcome {
 
 // The row of a subsystem: X, its first failing task (0 for none), B, L, jobs, the first job and the lowest resource (0 for
 // none) that reach R, and the outcome, which holds R.
-#[derive(Drop)]
+#[derive(Clone, Copy)]
 pub struct Row {
     pub holding: u32,
     pub failing: u32,

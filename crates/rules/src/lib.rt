@@ -9,7 +9,7 @@ pub mod breaks;
 pub mod places;
 
 // The rules, by what they are about.
-#[derive(Drop)]
+#[derive(Clone, Copy)]
 pub enum Rule {
     Counts,
     Range,
@@ -20,14 +20,14 @@ pub enum Rule {
 
 // Where a rule is broken, as document 01 prints it: subsystems and tasks from 1; task 0 is the subsystem itself, and
 // 0 0 the table as a whole.
-#[derive(Drop)]
+#[derive(Clone, Copy)]
 pub struct Place {
     pub subsystem: u8,
     pub task: u8,
 }
 
 // The judge's answer. specs/Refusal.antt gives the number and place of each case.
-#[derive(Drop)]
+#[derive(Clone, Copy)]
 pub enum Judged {
     Admitted,
     Refused(Rule, Place),

@@ -19,7 +19,7 @@ pub use held::table_is_held;
 
 // What can be wrong with the rest of a file, from the current field on. specs/Judge.antt gives document 01's number of
 // each.
-#[derive(Drop)]
+#[derive(Clone, Copy)]
 pub enum Fault {
     // Too few bytes are left, for tag and length or for the value.
     Short,
@@ -34,7 +34,7 @@ pub enum Fault {
 }
 
 // The judge's answer on the field at the start of the rest of a file.
-#[derive(Drop)]
+#[derive(Clone, Copy)]
 pub enum FieldAnswer {
     // The field that is due, with a value of so many bytes.
     Sound(usize),
@@ -43,28 +43,28 @@ pub enum FieldAnswer {
 }
 
 // A read's answer: the file is a table, or what is wrong with it and at which offset.
-#[derive(Drop)]
+#[derive(Clone, Copy)]
 pub enum ReadAnswer {
     Whole,
     Refused(Fault, usize),
 }
 
 // What a read gives: its answer, and the table, which is all zeros where the file is refused.
-#[derive(Drop)]
+#[derive(Clone, Copy)]
 pub struct Reading {
     pub answer: ReadAnswer,
     pub table: Table,
 }
 
 // Document 01's number and place of a read's answer.
-#[derive(Drop)]
+#[derive(Clone, Copy)]
 pub struct FileRefusal {
     pub number: u8,
     pub offset: usize,
 }
 
 // A write's answer. specs/Write.antt gives the number and place of each case.
-#[derive(Drop)]
+#[derive(Clone, Copy)]
 pub enum WriteAnswer {
     // The file stands at the buffer's start, with so many bytes.
     Written(usize),

@@ -9,7 +9,7 @@ ghost use Rattle.table.specs.Zeros.{zero_task, zero_subsystem, zero_table};
 pub mod grid;
 
 // A task: minimum separation T, work C, deadline D, and for each resource its longest access c, 0 meaning no access.
-#[derive(Drop)]
+#[derive(Clone, Copy)]
 pub struct Task {
     pub separation: u32,
     pub work: u32,
@@ -19,7 +19,7 @@ pub struct Task {
 
 // A subsystem: period P, budget Q, and its tasks, of which the first `count` are used. A lower index is a higher
 // priority.
-#[derive(Drop)]
+#[derive(Clone, Copy)]
 pub struct Subsystem {
     pub period: u32,
     pub budget: u32,
@@ -28,7 +28,7 @@ pub struct Subsystem {
 }
 
 // A table: N subsystems in use, M resources in use, and the subsystems. Slots past the counts may hold anything.
-#[derive(Drop)]
+#[derive(Clone, Copy)]
 pub struct Table {
     pub count: u8,
     pub resources: u8,

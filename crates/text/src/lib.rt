@@ -22,7 +22,7 @@ use table::grid::{BLOCK, LINE};
 use wording::{put_refused_file, put_refused_table, put_row};
 
 // The answer for a lent buffer. specs/Text.antt says when it is which, and what the buffer holds then.
-#[derive(Drop)]
+#[derive(Clone, Copy)]
 pub enum Printed {
     // The text stands at the buffer's start, with so many bytes.
     Text(usize),
