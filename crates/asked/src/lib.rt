@@ -1,6 +1,7 @@
 // One job of a table, for a planner who wants to know why a row is late. `job_end` has no `requires`. Every function here is proved,
 // and the crate assumes nothing.
 #![tactic(auto)]
+
 ghost use Rattle.std.specs.Prelude.{◌≡◌, ◌<◌};
 ghost use Rattle.table.specs.Meaning.{meaning};
 ghost use Rattle.table.specs.Grid.{system_in};

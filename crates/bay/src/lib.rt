@@ -2,6 +2,7 @@
 // buffer: none has a `requires`. A slice is passed as a pointer and a length; bindings/c/bay.h says the rest. Every function
 // here is proved, and the crate assumes nothing of its own.
 #![tactic(auto)]
+
 ghost use Rattle.std.specs.Prelude.{◌≡◌, length};
 ghost use Rattle.text.specs.Text.{buffer_after};
 ghost use Rattle.offsets.specs.Judgement.{judgement_of};

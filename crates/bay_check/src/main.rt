@@ -1,6 +1,7 @@
 // `check` of the rules: reads a stored table from standard input, the first 4,096 bytes, and prints the verdict. Nothing
 // longer than that is a table, and the answer is the same (crate `stored` proves it).
 #![tactic(auto)]
+
 use libc::STDIN_FILENO;
 
 fn main() {

@@ -3,6 +3,7 @@
 // judged by its first 4,096 and the rest is passed over. Where the bytes that a frame announces do not all come, the line
 // `broken frame K` is printed and the run ends.
 #![tactic(auto)]
+
 ghost use Rattle.std.specs.Prelude.{◌≡◌, ◌≤◌};
 ghost use Rattle.std.proofs.Math.ListN;
 ghost use Rattle.table.specs.Grid.{HasBlocks};

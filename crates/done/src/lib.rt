@@ -2,6 +2,7 @@
 // alone, which shuts no higher subsystem out. The active period ends with the first job that is done by the next one's release, so that it
 // is found on the way from job to job and need not be searched for. Every function here is proved, and the crate assumes nothing.
 #![tactic(auto)]
+
 ghost use Rattle.std.specs.Prelude.{◌≡◌, true, ◌+◌, ◌-◌, ◌^◌, ◌≤◌, ◌<◌, length};
 ghost use Rattle.table.specs.Limits.{most};
 ghost use Rattle.least.specs.Search.{reach};

@@ -1,6 +1,7 @@
 // Runs the figures that document 01 holds against the rules, and two of its slips that look right, and prints each with a name.
 // The file `stdout` has what they must be, written from that document by hand.
 #![tactic(auto)]
+
 mod print;
 mod tables;
 

@@ -2,6 +2,7 @@
 // Interfaces, their outer ceilings and blocking are crate `outer`'s; crate `ends` asks about single jobs. Every function here
 // is proved, and the crate assumes nothing. Indices count from 0; document 01 counts from 1.
 #![tactic(auto)]
+
 ghost use Rattle.std.specs.Prelude.{◌≡◌, ℕ, ◌+◌, ◌-◌, ◌≤◌, ◌<◌};
 ghost use Rattle.std.proofs.Math.Option.{none, some};
 ghost use Rattle.least.specs.Demand.{total};

@@ -1,6 +1,7 @@
 // Steps 1 and 2 for one subsystem, whose block is lent: the inner ceiling and the holding times. The counts are the caller's
 // to have judged by rule 1 (`Slots`); times may be anything, since sums of eight 32-bit numbers fit 64 bits.
 #![tactic(auto)]
+
 ghost use Rattle.std.specs.Prelude.{◌≡◌, cond, ◌≤◌, ◌<◌, max, eqb, set};
 ghost use Rattle.lists.specs.Range.{sum_to};
 ghost use Rattle.table.specs.Limits.{most};

@@ -1,6 +1,7 @@
 // Steps 9 to 11 for one job: where it ends with each resource that is held, and its response. What a subsystem sees of the others, its
 // active period, its jobs and their ends are defined in specs/. Every function here is proved, and the crate assumes nothing.
 #![tactic(auto)]
+
 ghost use Rattle.std.specs.Prelude.{◌≡◌, cond, ◌+◌, ◌≤◌, ltb, length};
 ghost use Rattle.least.specs.Demand.{total};
 ghost use Rattle.least.specs.Search.{IsLeast};

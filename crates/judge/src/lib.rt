@@ -1,6 +1,7 @@
 // The judge: rules 1 to 5 in their order on any table. `judge` and `judge_one` have no `requires`; the rest may take it
 // for granted that rule 1 has passed, since no index is in range before.
 #![tactic(auto)]
+
 ghost use Rattle.std.specs.Prelude.{◌≡◌, ◌≤◌, replicate};
 ghost use Rattle.table.specs.Limits.{most};
 ghost use Rattle.table.specs.Meaning.{meaning};

@@ -2,6 +2,7 @@
 // next free byte and gives the place after what it wrote. That there is room is the caller's to show. Every function here
 // is proved, and the crate assumes nothing.
 #![tactic(auto)]
+
 ghost use Rattle.std.specs.Prelude.{◌≡◌, [], ◌∷◌, ◌+◌, ◌≤◌, ◌<◌, length};
 ghost use Rattle.lines.specs.Written.{written};
 ghost use Rattle.lines.specs.Decimal.{decimal, digit_byte, pair};

@@ -1,6 +1,7 @@
 // Steps 3 to 5 for one subsystem: task blocking, passing, and the first failing task. The subsystem is one of an admitted
 // table, which `Ready` says. Every function here is proved, and the crate assumes nothing of its own.
 #![tactic(auto)]
+
 ghost use Rattle.std.specs.Prelude.{◌≡◌, ◌<◌};
 ghost use Rattle.lists.specs.Range.{padded};
 ghost use Rattle.table.specs.Limits.{most};

@@ -1,6 +1,7 @@
 // What a file comes to and the figures of its report, as numbers of four bytes at fixed offsets: what callers in other languages are
 // given. Every function here is proved, and the crate assumes nothing.
 #![tactic(auto)]
+
 use stored::number::NUMBER;
 use table::Table;
 

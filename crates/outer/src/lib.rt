@@ -3,6 +3,7 @@
 // reference, as lines of numbers (module `interfaces`), with N and M beside them; a lower line is a higher priority. Every
 // function here is proved, and the crate assumes nothing. Indices count from 0; document 01 counts from 1.
 #![tactic(auto)]
+
 mod blocking;
 mod ceilings;
 pub mod interfaces;

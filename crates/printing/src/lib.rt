@@ -1,5 +1,6 @@
 // What the programs share: the text of a file to standard output. The text itself is crate `text`'s, proved there.
 #![tactic(auto)]
+
 ghost use Rattle.table.specs.Grid.{HasBlocks};
 
 use libc::STDOUT_FILENO;

@@ -2,6 +2,7 @@
 // proved, and the crate assumes nothing of its own. `read_table` has no `requires`; whoever is lent a grid or a block asks for
 // its shape, and `table_of` for counts that a table has room for.
 #![tactic(auto)]
+
 use stored::ReadAnswer;
 
 mod read;

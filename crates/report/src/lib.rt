@@ -1,6 +1,7 @@
 // The report of any table: the judgement, a row for each subsystem (crate `rows`), and acceptance. `analyse` has no `requires`.
 // Every function here is proved, and the crate assumes nothing of its own.
 #![tactic(auto)]
+
 ghost use Rattle.std.specs.Prelude.{◌≡◌, false, replicate};
 ghost use Rattle.table.specs.Limits.{most};
 ghost use Rattle.table.specs.Meaning.{meaning};

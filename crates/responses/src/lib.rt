@@ -1,6 +1,7 @@
 // The largest response of a subsystem over every job of its active period (step 11). Every function here is proved, and the crate
 // assumes nothing.
 #![tactic(auto)]
+
 mod room;
 
 ghost use Rattle.std.specs.Prelude.{◌≡◌, ◌+◌, ◌-◌, ◌≤◌, ◌<◌, length, get_or};

@@ -1,5 +1,6 @@
 // A subsystem's row and its outcome (step 11), and what both are made of. Every function here is proved, and the crate assumes nothing.
 #![tactic(auto)]
+
 ghost use Rattle.std.specs.Prelude.{◌≡◌, ◌-◌, ◌≤◌};
 ghost use Rattle.row.specs.declared.Outcome.TheVariants.{None};
 ghost use Rattle.row.specs.Row.{judged};

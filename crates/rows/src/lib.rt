@@ -1,6 +1,7 @@
 // The rows of an admitted table, filled subsystem by subsystem from its interfaces. Every function here is proved, and the crate
 // assumes nothing.
 #![tactic(auto)]
+
 pub mod interface;
 
 ghost use Rattle.std.specs.Prelude.{◌≡◌};

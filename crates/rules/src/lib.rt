@@ -1,6 +1,7 @@
 // Rules 1 to 5: what breaks each of them at one place, and the first place of a subsystem that breaks one. Crate `judge`
 // goes through them in their order.
 #![tactic(auto)]
+
 ghost use Rattle.std.specs.Prelude.{◌≡◌, ◌≤◌, ◌<◌};
 
 use table::{Subsystem, Table};

@@ -3,6 +3,7 @@
 // ahead of x, which its own costs move on. No load is divided for at every step. Every function here is proved, and the crate
 // assumes nothing.
 #![tactic(auto)]
+
 ghost use Rattle.std.specs.Prelude.{◌≡◌, ◌^◌, ◌≤◌, ◌<◌, length, get_or};
 ghost use Rattle.least.specs.Demand.{total};
 ghost use Rattle.least.specs.Search.{ComesDown, IsLeast, reach};

@@ -3,6 +3,7 @@
 // crate assumes nothing of its own. No function of this file has a `requires`; those of `number`, `fields` and `decode` ask for
 // the bytes that they are to read or to write, and whoever is lent a line asks for its shape.
 #![tactic(auto)]
+
 ghost use Rattle.std.specs.Prelude.{◌≡◌};
 ghost use Rattle.stored.specs.Judge.{fault_number};
 ghost use Rattle.stored.specs.Read.{file_refusal};

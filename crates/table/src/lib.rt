@@ -2,6 +2,7 @@
 // in specs/Meaning.antt. Every function here is proved, and the crate assumes nothing of its own. No public function
 // of this file has a `requires`.
 #![tactic(auto)]
+
 ghost use Rattle.std.specs.Prelude.{◌≡◌};
 ghost use Rattle.table.specs.Limits.{most, largest, horizon};
 ghost use Rattle.table.specs.Zeros.{zero_task, zero_subsystem, zero_table};

@@ -1,6 +1,7 @@
 // Prints, for each stored table that an argument names, a line with the name and then what `check` prints for it. The
 // stored output comes from the peer's literal engine (tests/peer/make_tables), never from this program.
 #![tactic(auto)]
+
 use libc::STDOUT_FILENO;
 
 // One stored table.

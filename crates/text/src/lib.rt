@@ -1,6 +1,7 @@
 // What `check` prints, as bytes in a lent buffer. Every function here is proved, and the crate assumes nothing of its own.
 // `check_text` has no `requires`; `check_text_in` asks for the shape of a grid, which its type gives.
 #![tactic(auto)]
+
 ghost use Rattle.std.specs.Prelude.{◌≡◌, ◌+◌, ◌*◌, ◌≤◌, length};
 ghost use Rattle.lists.specs.Range.{join_to};
 ghost use Rattle.table.specs.Limits.{most};

@@ -2,6 +2,7 @@
 // the part of the buffer from the next free byte on. Every function here is proved, and the crate assumes nothing of its
 // own. `write_table` and `file_length` have no `requires`.
 #![tactic(auto)]
+
 mod put;
 
 ghost use Rattle.std.specs.Prelude.{◌≡◌, ◌≤◌, length};

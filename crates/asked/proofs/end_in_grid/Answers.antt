@@ -1,0 +1,46 @@
+-- `asked::end_in_grid` meets its contract. Assumes nothing.
+use Prim.Native.Nat.{◌-◌}
+use native.Mathlib.Nat.{pos_of_ne-zero}
+use native.Mathlib.Omega.{arith}
+use mathlib.Core.Path.{refl, sym, ap, ◌∙◌}
+use Rattle.table.specs.Grid.{system_in}
+use Rattle.table.proofs.GridLaws.{count_of_grid}
+use Rattle.rules.proofs.Sound.{admitted_is_sound}
+use Rattle.outer.specs.Interfaces.{InterfacesM}
+use Rattle.job.specs.View.{view_of}
+use Rattle.asked.specs.Jobs.{end_of}
+use Rattle.rows.proofs.SoundLaws.{count_of_interfaces}
+use Rattle.rows.proofs.InterfaceLaws.{sound_lines}
+use Rattle.asked.proofs.JobsLaws.{refused_ends, subsystem_0, past_subsystems_lem, ends_in}
+use Rattle.asked.proofs.end_in_grid.Goals as goal
+
+pub returns-in_default : goal.returns-in_default
+returns-in_default c =
+    refused_ends _ c.args.k c.args.l c.args.s c.judge_grid-judged.ensures.value c.in_default.is
+
+pub returns-then-s-eq0 : goal.returns-then-s-eq0
+returns-then-s-eq0 c =
+    subsystem_0 _ c.args.k c.args.l c.judge_grid-judged.ensures.value c.in-Admitted.is c.args.s c.if-s-eq0.true
+
+pub returns-then-n-s : goal.returns-then-n-s
+returns-then-n-s c =
+    past_subsystems_lem _ c.args.k c.args.l c.judge_grid-judged.ensures.value c.in-Admitted.is c.args.s (omega (arith, count_of_interfaces (system_in c.args.n c.args.m c.args.grid.now), count_of_grid c.args.n c.args.m c.args.grid.now, c.if-n-s.true))
+
+pub interfaces_of-requires : goal.interfaces_of-requires
+interfaces_of-requires c =
+    record { sound_system = admitted_is_sound _ (sym c.judge_grid-judged.ensures.value ∙ c.in-Admitted.is); held_in = c.judge_grid-judged.ensures.held_in c.in-Admitted.is; lines_len = refl }
+
+pub in_common-common-requires : goal.in_common-common-requires
+in_common-common-requires c =
+    sound_lines _ _ _ _ c.interfaces_of.ensures (admitted_is_sound _ (sym c.judge_grid-judged.ensures.value ∙ c.in-Admitted.is))
+
+pub end_of-requires : goal.end_of-requires
+end_of-requires c =
+    record { sound = sound_lines _ _ _ _ c.interfaces_of.ensures (admitted_is_sound _ (sym c.judge_grid-judged.ensures.value ∙ c.in-Admitted.is)); common_value = c.in_common-common.ensures; s_lt_n = omega (arith, pos_of_ne-zero c.if-s-eq0.false, c.if-n-s.false) }
+
+pub returns : goal.returns
+returns c =
+    let sys = system_in c.args.n c.args.m c.args.grid.now in
+    ends_in sys c.args.k c.args.l c.judge_grid-judged.ensures.value c.in-Admitted.is c.args.s (pos_of_ne-zero c.if-s-eq0.false)
+    (omega (arith, count_of_interfaces sys, count_of_grid c.args.n c.args.m c.args.grid.now, c.if-n-s.false))
+    (c.end_of.ensures ∙ ap (λ (g : InterfacesM). end_of (view_of g (c.args.s - 1)) c.args.k c.args.l) c.interfaces_of.ensures)

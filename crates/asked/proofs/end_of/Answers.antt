@@ -1,0 +1,68 @@
+-- `asked::end_of` meets its contract: each test settles a case of the definition. Assumes nothing.
+use Prim.Native.Nat.{◌-◌, ◌≤◌, ◌<◌}
+use native.Mathlib.Nat.{pos_of_ne-zero}
+use native.Mathlib.Omega.{arith}
+use mathlib.Core.Path.{◌≡◌, sym, ◌∙◌}
+use Rattle.table.specs.Limits.{most}
+use Rattle.outer.specs.Interfaces.{held_at, interfaces_in}
+use Rattle.outer.proofs.Slots.{few_of, few_resources_of, resources_of}
+use Rattle.job.specs.View.{view_of, resources, held}
+use Rattle.job.proofs.ViewLaws.{resources_seen}
+use Rattle.job.proofs.LentLaws.{held_lent}
+use Rattle.job.proofs.EndsLaws.{counted_below}
+use Rattle.asked.proofs.JobsLaws.{held_past, no_job, ends_with_budget, never_held, ends_with_resource}
+use Rattle.asked.proofs.end_of.Goals as goal
+
+pub returns-then-jobs_of-k : goal.returns-then-jobs_of-k
+returns-then-jobs_of-k c =
+    no_job _ c.args.k c.args.l c.jobs_of.ensures (omega (arith, c.if-jobs_of-k.true))
+
+pub budget_end-requires : goal.budget_end-requires
+budget_end-requires c =
+    record { sound = c.requires.sound; common_value = c.requires.common_value; s_lt_n = c.requires.s_lt_n; counted = counted_below _ (omega (arith, c.jobs_of.ensures, c.if-jobs_of-k.false)) }
+
+pub returns-then-l-eq0 : goal.returns-then-l-eq0
+returns-then-l-eq0 c =
+    ends_with_budget _ c.args.k c.jobs_of.ensures c.if-jobs_of-k.false c.if-l-eq0.true c.budget_end.ensures
+
+pub returns-then-m-l : goal.returns-then-m-l
+returns-then-m-l c =
+    let listed : 1 ≤ c.args.l = pos_of_ne-zero c.if-l-eq0.false in
+    let seen : resources (view_of (interfaces_in c.args.n c.args.m c.args.lines.now) c.args.s) ≡ c.args.m = resources_seen (interfaces_in c.args.n c.args.m c.args.lines.now) c.args.s ∙ resources_of c.args.n c.args.m c.args.lines.now in
+    never_held _ c.args.k c.jobs_of.ensures c.if-jobs_of-k.false c.args.l (listed) (held_past _ _ (omega (arith, seen, c.if-m-l.true)))
+
+pub overflow_sub-l : goal.overflow_sub-l
+overflow_sub-l c =
+    let listed : 1 ≤ c.args.l = pos_of_ne-zero c.if-l-eq0.false in
+    listed
+
+pub held-requires : goal.held-requires
+held-requires c =
+    let few : (c.args.n ≤ most) × (c.args.m ≤ most) = (few_of _ _ _ c.requires.sound, few_resources_of _ _ _ c.requires.sound) in
+    let listed : 1 ≤ c.args.l = pos_of_ne-zero c.if-l-eq0.false in
+    (omega (arith, (few).0, c.requires.s_lt_n), omega (arith, (few).1, listed, c.if-m-l.false))
+
+pub returns-then-held-eq0 : goal.returns-then-held-eq0
+returns-then-held-eq0 c =
+    let listed : 1 ≤ c.args.l = pos_of_ne-zero c.if-l-eq0.false in
+    let slot_held : held_at c.args.lines.now c.args.s (c.args.l - 1) ≡ held (view_of (interfaces_in c.args.n c.args.m c.args.lines.now) c.args.s) (c.args.l - 1) = held_lent c.args.n c.args.m c.args.lines.now c.args.s (c.args.l - 1) c.requires.s_lt_n (omega (arith, listed, c.if-m-l.false)) in
+    never_held _ c.args.k c.jobs_of.ensures c.if-jobs_of-k.false c.args.l (listed) (sym (slot_held) ∙ sym c.held.ensures ∙ c.if-held-eq0.true)
+
+pub overflow_sub-l-2 : goal.overflow_sub-l-2
+overflow_sub-l-2 c =
+    let listed : 1 ≤ c.args.l = pos_of_ne-zero c.if-l-eq0.false in
+    omega (arith, listed)
+
+pub job_end-requires : goal.job_end-requires
+job_end-requires c =
+    let listed : 1 ≤ c.args.l = pos_of_ne-zero c.if-l-eq0.false in
+    let slot_held : held_at c.args.lines.now c.args.s (c.args.l - 1) ≡ held (view_of (interfaces_in c.args.n c.args.m c.args.lines.now) c.args.s) (c.args.l - 1) = held_lent c.args.n c.args.m c.args.lines.now c.args.s (c.args.l - 1) c.requires.s_lt_n (omega (arith, listed, c.if-m-l.false)) in
+    let is_held : 0 < held (view_of (interfaces_in c.args.n c.args.m c.args.lines.now) c.args.s) (c.args.l - 1) = omega (arith, slot_held, c.held.ensures, pos_of_ne-zero c.if-held-eq0.false) in
+    record { sound = c.requires.sound; common_value = c.requires.common_value; s_lt_n = c.requires.s_lt_n; counted = counted_below _ (omega (arith, c.jobs_of.ensures, c.if-jobs_of-k.false)); l_lt_m = (omega (arith, listed, c.if-m-l.false), is_held) }
+
+pub returns : goal.returns
+returns c =
+    let listed : 1 ≤ c.args.l = pos_of_ne-zero c.if-l-eq0.false in
+    let slot_held : held_at c.args.lines.now c.args.s (c.args.l - 1) ≡ held (view_of (interfaces_in c.args.n c.args.m c.args.lines.now) c.args.s) (c.args.l - 1) = held_lent c.args.n c.args.m c.args.lines.now c.args.s (c.args.l - 1) c.requires.s_lt_n (omega (arith, listed, c.if-m-l.false)) in
+    let is_held : 0 < held (view_of (interfaces_in c.args.n c.args.m c.args.lines.now) c.args.s) (c.args.l - 1) = omega (arith, slot_held, c.held.ensures, pos_of_ne-zero c.if-held-eq0.false) in
+    ends_with_resource _ c.args.k c.jobs_of.ensures c.if-jobs_of-k.false c.args.l (listed) (is_held) c.job_end.ensures

@@ -1,0 +1,33 @@
+-- `ends::ahead_of_job` meets its contract: the jobs before job k take less than the active period. Assumes nothing.
+use Prim.Native.Nat.{◌+◌, ◌<◌}
+use native.Mathlib.Omega.{arith}
+use mathlib.Core.Path.{ap₂, ◌∙◌}
+use Rattle.table.specs.Limits.{most}
+use Rattle.outer.proofs.Slots.{few_of}
+use Rattle.job.proofs.ActiveLaws.{active_within}
+use Rattle.job.proofs.LentLaws.{lent_sound, ahead_lent, jobs_before}
+use Rattle.ends.proofs.ahead_of_job.Goals as goal
+
+pub offset_bounds-costs-s : goal.offset_bounds-costs-s
+offset_bounds-costs-s c =
+    let listed : c.args.s < most = omega (arith, few_of c.args.n c.args.m c.args.lines.now c.requires.sound, c.requires.s_lt_n) in
+    omega (arith, listed)
+
+pub bounds-costs-s : goal.bounds-costs-s
+bounds-costs-s c =
+    let listed : c.args.s < most = omega (arith, few_of c.args.n c.args.m c.args.lines.now c.requires.sound, c.requires.s_lt_n) in
+    listed
+
+pub overflow_mul-before : goal.overflow_mul-before
+overflow_mul-before c =
+    omega (arith, jobs_before c.args.n c.args.m c.args.lines.now c.args.common c.requires.sound c.requires.common_value c.args.s c.requires.s_lt_n c.requires.counted, active_within _ (lent_sound c.args.n c.args.m c.args.lines.now c.args.common c.requires.sound c.requires.common_value c.args.s c.requires.s_lt_n) c.requires.counted.is_active)
+
+pub budget-requires : goal.budget-requires
+budget-requires c =
+    let listed : c.args.s < most = omega (arith, few_of c.args.n c.args.m c.args.lines.now c.requires.sound, c.requires.s_lt_n) in
+    listed
+
+pub returns : goal.returns
+returns c =
+    ap₂ ◌+◌ (ap₂ ◌+◌ c.wide.ensures.0 c.wide-2.ensures.0) c.wide-3.ensures.0 ∙
+    ahead_lent c.args.n c.args.m c.args.lines.now c.args.common c.requires.sound c.requires.common_value c.args.s c.requires.s_lt_n c.args.k c.blocking_in.ensures c.budget.ensures

@@ -1,0 +1,23 @@
+-- `global::active_row` meets its contract: its parts do. Assumes nothing.
+use Rattle.job.specs.Ends.{jobs}
+use Rattle.job.proofs.ActiveLaws.{period_pos, active_from}
+use Rattle.row.proofs.RowLaws.{budget_below, overrun_computed, row_with_lem}
+use mathlib.Core.Path.{refl, ◌∙◌}
+use Rattle.global.proofs.active_row.Goals as goal
+
+pub round_up-n-requires : goal.round_up-n-requires
+round_up-n-requires c =
+    (active_from _ c.requires.sound_view c.requires.own_value, period_pos _ c.requires.sound_view)
+
+pub largest_response-worst-requires : goal.largest_response-worst-requires
+unfolding jobs
+largest_response-worst-requires c =
+    (c.requires.sound_view, (record { is_active = c.requires.own_value; all = c.round_up-n.ensures }, c.requires.TAIL2))
+
+pub row_with-requires : goal.row_with-requires
+row_with-requires c =
+    budget_below _ c.requires.sound_view
+
+pub returns : goal.returns
+returns c =
+    c.row_with.ensures ∙ row_with_lem _ c.args.own.failing c.args.active (overrun_computed _ c.requires.sound_view) c.round_up-n.ensures c.largest_response-worst.ensures refl

@@ -1,0 +1,68 @@
+-- `global::row_seen` meets its contract: it is known that there is no active period, or the first search finds no budget end; or nothing or
+-- one resource alone is held, and the jobs tell; or the active period is searched for. Assumes nothing.
+use Prim.Native.Nat.{◌≤◌}
+use mathlib.Core.Path.{◌∙◌}
+use Rattle.row.proofs.RowLaws.{budget_below, overrun_computed, row_without_lem}
+use Rattle.job.proofs.ResponseLaws.{no_overrun}
+use Rattle.done.proofs.DoneLaws.{first_done_without, ends_done_without}
+use Rattle.job.proofs.WaitLaws.{after_none, first_ahead, first_small, first_beyond, first_end}
+use native.Mathlib.Omega.{arith}
+use Rattle.global.proofs.row_seen.Goals as goal
+
+pub row_without-requires : goal.row_without-requires
+row_without-requires c =
+    budget_below _ c.requires.sound_view
+
+pub returns-then-fits-s : goal.returns-then-fits-s
+returns-then-fits-s c =
+    c.row_without.ensures ∙ row_without_lem _ c.args.own.failing (overrun_computed _ c.requires.sound_view) (c.requires.own_value c.if-fits-s.true)
+
+pub overflow_add-ahead : goal.overflow_add-ahead
+overflow_add-ahead c =
+    record { fits = omega (arith, first_small _ c.requires.sound_view) }
+
+pub least_after-first-requires : goal.least_after-first-requires
+least_after-first-requires c =
+    record { after = after_none _ c.requires.sound_view 0 (first_ahead _ c.requires.sound_view) (first_small _ c.requires.sound_view) c.requires.frees; bound_lt_reach = omega arith }
+
+pub row_without-requires-then-first-gt-HORIZON : goal.row_without-requires-then-first-gt-HORIZON
+row_without-requires-then-first-gt-HORIZON c =
+    budget_below _ c.requires.sound_view
+
+pub returns-then-first-gt-HORIZON : goal.returns-then-first-gt-HORIZON
+returns-then-first-gt-HORIZON c =
+    c.row_without-then-first-gt-HORIZON.ensures ∙ row_without_lem _ c.args.own.failing (overrun_computed _ c.requires.sound_view) (first_beyond _ c.requires.sound_view c.least_after-first.ensures.found (omega (arith, c.if-first-gt-HORIZON.true)))
+
+pub may_be_far-far-requires : goal.may_be_far-far-requires
+may_be_far-far-requires c =
+    (c.requires.sound_view.fit.loads, c.requires.sound_view.few)
+
+pub lone_on_the_way-res-requires : goal.lone_on_the_way-res-requires
+lone_on_the_way-res-requires c =
+    (omega (arith, c.requires.sound_view.same_resources), c.requires.sound_view.few_resources)
+
+pub row_alone-requires : goal.row_alone-requires
+row_alone-requires c =
+    let some : 1 ≤ c.lone_on_the_way-res.result = omega (arith, c.if-res-ne0.true) in
+    record { sound_view = c.requires.sound_view; le_lone = (some, c.lone_on_the_way-res.ensures some); first_end = first_end _ c.requires.sound_view c.least_after-first.ensures.found (omega (arith, c.least_after-first.ensures.ends_len_unchanged)) c.if-first-gt-HORIZON.false; frees = c.requires.frees }
+
+pub returns-then-res-ne0 : goal.returns-then-res-ne0
+returns-then-res-ne0 c =
+    c.row_alone.ensures
+
+pub row_by_jobs-requires : goal.row_by_jobs-requires
+row_by_jobs-requires c =
+    let nothing = no_overrun _ c.requires.sound_view (omega (arith, c.on_the_way.ensures c.if-on_the_way.true)) in
+    record { sound_view = c.requires.sound_view; ends_done = ends_done_without _ nothing; first_done = first_done_without _ nothing (first_end _ c.requires.sound_view c.least_after-first.ensures.found (omega (arith, c.least_after-first.ensures.ends_len_unchanged)) c.if-first-gt-HORIZON.false); frees = c.requires.frees }
+
+pub returns-then-on_the_way : goal.returns-then-on_the_way
+returns-then-on_the_way c =
+    c.row_by_jobs.ensures
+
+pub row_searched-requires : goal.row_searched-requires
+row_searched-requires c =
+    record { sound_view = c.requires.sound_view; first_end = first_end _ c.requires.sound_view c.least_after-first.ensures.found (omega (arith, c.least_after-first.ensures.ends_len_unchanged)) c.if-first-gt-HORIZON.false; frees = c.requires.frees }
+
+pub returns : goal.returns
+returns c =
+    c.row_searched.ensures

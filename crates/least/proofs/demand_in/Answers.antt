@@ -1,0 +1,29 @@
+use Prim.Native.Nat.{ℕ, ◌-◌}
+use native.Mathlib.Omega.{arith}
+use mathlib.Core.Path.{sym, ap, ◌∙◌, ◌≡◌}
+use Rattle.least.proofs.Demand.{demand_zero, demand_suc, demand_below, loads_fewer}
+use Rattle.least.specs.Demand.{demand}
+use Rattle.least.proofs.demand_in.Goals as goal
+
+pub loop-t-init : goal.loop-t-init
+loop-t-init c =
+    (omega arith, sym (demand_zero _ _ _))
+
+pub load_in-sum-requires : goal.load_in-sum-requires
+load_in-sum-requires c =
+    (c.requires.loads.period_pos c.loop-t.t (omega arith), c.requires.loads.cost_small c.loop-t.t (omega arith), c.requires.le_x.0, c.requires.le_x.1)
+
+pub overflow_add-sum : goal.overflow_add-sum
+overflow_add-sum c =
+    omega (arith, demand_below _ _ c.loop-t.t c.args.x (loads_fewer c.loop-t.t c.requires.loads c.loop-t.invariant.0) c.requires.le_x.1, c.requires.loads.few)
+
+pub loop-t-preserved : goal.loop-t-preserved
+loop-t-preserved c =
+    (omega arith, omega (arith, demand_suc c.args.periods.now c.args.costs.now c.loop-t.t c.args.x, c.load_in-sum.ensures.0, c.loop-t.invariant.1))
+
+pub returns : goal.returns
+returns c =
+    let e : c.loop-t.t ≡ c.args.n = omega arith in (
+      c.loop-t.invariant.1 ∙ ap (λ (k : ℕ). demand c.args.periods.now c.args.costs.now k c.args.x) e,
+      omega (arith, demand_below _ _ c.loop-t.t c.args.x (loads_fewer c.loop-t.t c.requires.loads c.loop-t.invariant.0) c.requires.le_x.1, c.requires.loads.few),
+    )

@@ -1,0 +1,36 @@
+-- `local::task_passes` meets its contract. Assumes nothing.
+use native.Mathlib.Omega.{arith}
+use mathlib.Core.Path.{◌∙◌}
+use Rattle.local.proofs.TaskLaws.{Within, tasks_within, some_budget, task_within, tasks_are_loads, passes_by_block}
+use Rattle.local.proofs.task_passes.Goals as goal
+
+pub work-requires : goal.work-requires
+work-requires c =
+    omega (arith, c.requires.i_bound.0, tasks_within _ _ c.requires.ready.sound)
+
+pub deadline-requires : goal.deadline-requires
+deadline-requires c =
+    omega (arith, c.requires.i_bound.0, tasks_within _ _ c.requires.ready.sound)
+
+pub held_within-requires : goal.held_within-requires
+held_within-requires c =
+    let ok : Within c.args.m c.args.block.now c.requires.ready.sound c.args.i = task_within _ _ c.requires.ready.sound _ c.requires.i_bound.0 in (
+      tasks_are_loads c.args.m c.args.block.now c.requires.ready.sound c.args.i c.requires.i_bound.0 _ _ c.requires.i_bound.2,
+      (
+        record {
+          budget_least = omega (arith, c.budget.ensures, some_budget _ _ c.requires.ready.sound);
+          budget_by_end = omega (arith, c.budget.ensures, c.requires.ready.budget_by_end);
+          end_by_period = omega (arith, c.period.ensures, c.requires.ready.end_by_period);
+        },
+        (
+          omega (arith, c.wide-2.ensures.0, c.work.ensures, ok.work_least),
+          omega (arith, c.wide.ensures.1, c.wide-2.ensures.1),
+          omega (arith, c.deadline.ensures, ok.deadline_most),
+        ),
+      ),
+    )
+
+pub returns : goal.returns
+returns c =
+    c.held_within.ensures ∙
+    passes_by_block c.args.m c.args.block.now c.requires.ready.sound c.args.i c.requires.i_bound.0 _ _ c.requires.i_bound.2 c.args.end _ _ _ (c.wide.ensures.0 ∙ c.requires.i_bound.1) (c.wide-2.ensures.0 ∙ c.work.ensures) c.deadline.ensures _ _ c.period.ensures c.budget.ensures

@@ -1,0 +1,24 @@
+-- `report::report_of` meets its contract. Assumes nothing.
+use mathlib.Core.Path.{sym, ◌∙◌}
+use Rattle.table.specs.Grid.{system_in}
+use Rattle.table.proofs.GridLaws.{count_of_grid}
+use Rattle.rules.proofs.Sound.{admitted_is_sound}
+use Rattle.rows.proofs.InterfaceLaws.{few_subsystems}
+use Rattle.report.proofs.ReportLaws.{refused_report, admitted_report}
+use Rattle.report.proofs.report_of.Goals as goal
+
+pub returns-in_default : goal.returns-in_default
+returns-in_default c =
+    refused_report _ _ _ _ _ c.judge_grid-judged.ensures.value c.in_default.is c.without_figures.ensures
+
+pub rows_of-rows-requires : goal.rows_of-rows-requires
+rows_of-rows-requires c =
+    record { sound_system = admitted_is_sound _ (sym c.judge_grid-judged.ensures.value ∙ c.in-Admitted.is); held_in = c.judge_grid-judged.ensures.held_in c.in-Admitted.is }
+
+pub all_accepted-accepted-requires : goal.all_accepted-accepted-requires
+all_accepted-accepted-requires c =
+    (few_subsystems c.args.n c.args.m c.args.grid.now (admitted_is_sound _ (sym c.judge_grid-judged.ensures.value ∙ c.in-Admitted.is))).0
+
+pub returns : goal.returns
+returns c =
+    admitted_report (system_in c.args.n c.args.m c.args.grid.now) _ _ _ _ c.judge_grid-judged.ensures.value c.in-Admitted.is (count_of_grid _ _ _) c.rows_of-rows.ensures c.all_accepted-accepted.ensures

@@ -1,0 +1,22 @@
+use borrow.Author.Rules.{rules}
+use Prim.Native.Nat.{◌-◌}
+use native.Mathlib.Omega.{arith}
+use Rattle.table.specs.Grid.{subsystem_in}
+use Rattle.rows.proofs.InterfaceLaws.{holding_small, held_here, line_begins, line_more, line_shows}
+use Rattle.rows.proofs.interface.interface_of.Goals as goal
+
+pub loop-l-init : goal.loop-l-init
+loop-l-init c =
+    (search rules, c.requires.sound_slot.resources_most, line_begins _ _ _ _ c.period.ensures c.budget.ensures)
+
+pub overflow_cast-line : goal.overflow_cast-line
+overflow_cast-line c =
+    omega (arith, holding_small c.args.block.now c.args.m c.requires.sound_slot c.loop-l.l c.loop-l-test.true, held_here (subsystem_in c.args.m c.args.block.now) c.args.m c.loop-l.l c.args.held.now c.requires.held_value c.loop-l-test.true)
+
+pub loop-l-preserved : goal.loop-l-preserved
+loop-l-preserved c =
+    (search rules, c.loop-l.invariant.1, line_more c.args.m c.args.block.now c.loop-l.line c.loop-l.l _ (omega (arith, c.loop-l-test.true, c.loop-l.invariant.1)) c.loop-l.invariant.2 (held_here (subsystem_in c.args.m c.args.block.now) c.args.m c.loop-l.l c.args.held.now c.requires.held_value c.loop-l-test.true))
+
+pub returns : goal.returns
+returns c =
+    line_shows _ _ _ c.loop-l.l (omega (arith, c.loop-l-test.false, c.loop-l.invariant.0)) c.loop-l.invariant.2
