@@ -29,9 +29,9 @@ loop-l-preserved c =
     let access = c.wide-c.ensures.0 ∙ c.access.ensures in (
       turn_within _ _ c.loop-l-test.true,
       (elim c.if-c-ne0.branch [
-        | then-c-ne0 w ↦ up_to_same c.args.block.now c.args.m c.args.i (c.loop-l.l + 1) (w.raise-arg-1 ∙ w.work_above-top.ensures.1) w.raise-largest w.EQ0-is
-            (up_to_with c.args.block.now c.args.m c.args.i c.loop-l.each c.loop-l.above c.loop-l.largest c.loop-l.l c.wide-c.result c.loop-l-test.true c.requires.counted.resources_most access c.loop-l.invariant.1 c.requires.i_bound (omega (arith, w.if-c-ne0.true)) c.wide-c.ensures.1 c.args.before w.way_told-then-c-ne0-1.result (w.way_told-then-c-ne0-1.result + c.wide-c.result) (max (slot_of c.loop-l.each c.loop-l.l) (w.way_told-then-c-ne0-1.result + c.wide-c.result)) w.work_above-top.result c.requires.before_value.0 c.requires.before_value.1 w.way_told-then-c-ne0-1.ensures refl refl w.work_above-top.ensures.0)
-        | else-c-ne0 w ↦ up_to_same c.args.block.now c.args.m c.args.i (c.loop-l.l + 1) w.EQ0-is w.EQ1-is w.EQ2-is
+        | then-c-ne0 w ↦ up_to_same c.args.block.now c.args.m c.args.i (c.loop-l.l + 1) (w.each-is ∙ w.raise-largest.ensures.1) w.above-is w.largest-is
+            (up_to_with c.args.block.now c.args.m c.args.i c.loop-l.each c.loop-l.above c.loop-l.largest c.loop-l.l c.wide-c.result c.loop-l-test.true c.requires.counted.resources_most access c.loop-l.invariant.1 c.requires.i_bound (omega (arith, w.if-c-ne0.true)) c.wide-c.ensures.1 c.args.before w.work_above-top.result (w.work_above-top.result + c.wide-c.result) (max (slot_of c.loop-l.each c.loop-l.l) (w.work_above-top.result + c.wide-c.result)) w.raise-largest.result c.requires.before_value.0 c.requires.before_value.1 w.work_above-top.ensures refl refl w.raise-largest.ensures.0)
+        | else-c-ne0 w ↦ up_to_same c.args.block.now c.args.m c.args.i (c.loop-l.l + 1) w.each-is w.above-is w.largest-is
             (up_to_without c.args.block.now c.args.m c.args.i c.loop-l.each c.loop-l.above c.loop-l.largest c.loop-l.l c.wide-c.result c.loop-l-test.true c.requires.counted.resources_most access c.loop-l.invariant.1 (omega (arith, w.if-c-ne0.false)))
       ]),
     )

@@ -60,7 +60,7 @@ pub loop-t-preserved : goal.loop-t-preserved
 loop-t-preserved c =
     let room : (c.loop-t.t) < length c.loop-t.ends = omega (arith, c.loop-t-test.true, c.requires.fit.2, c.loop-t.invariant.1.same_length) in
     let next : (times : ℕ) → times ≡ (up (c.args.start - get_or c.loop-t.ends (c.loop-t.t) 0) (get_or c.args.periods.now (c.loop-t.t) 0)) → Advancing c.args.periods.now c.args.costs.now c.args.ends.now c.args.x c.args.start ((c.loop-t.t) + 1) (set c.loop-t.ends (c.loop-t.t) (get_or c.loop-t.ends (c.loop-t.t) 0 + times * (get_or c.args.periods.now (c.loop-t.t) 0))) (c.loop-t.sum + times * (get_or c.args.costs.now (c.loop-t.t) 0)) = λ times e. asks_on _ _ _ _ _ (c.loop-t.t) _ _ c.loop-t.invariant.1 times e room in
-    (turn_within _ _ c.loop-t-test.true, (elim c.if-ends-t.branch [ then-ends-t w ↦ rw (w.EQ0-is, w.EQ1-is) (next _ w.round_up-times.ensures) | else-ends-t w ↦ rw (w.EQ0-is, w.EQ1-is) (stays _ _ _ _ _ _ _ _ c.loop-t.invariant.1 (c.requires.fit.0.loads.period_pos _ c.loop-t-test.true) w.if-ends-t.false) ]))
+    (turn_within _ _ c.loop-t-test.true, (elim c.if-ends-t.branch [ then-ends-t w ↦ rw (w.ends-is, w.sum-is) (next _ w.round_up-times.ensures) | else-ends-t w ↦ rw (w.ends-is, w.sum-is) (stays _ _ _ _ _ _ _ _ c.loop-t.invariant.1 (c.requires.fit.0.loads.period_pos _ c.loop-t-test.true) w.if-ends-t.false) ]))
 
 pub returns : goal.returns
 returns c =

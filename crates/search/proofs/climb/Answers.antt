@@ -7,8 +7,24 @@ use Rattle.search.specs.After.{afterwards}
 use Rattle.search.proofs.ClimbLaws.{Climbing, climbs_from, climbs_start, total_starts, falls_behind, no_solution, climb_small, climbs_on, grows, too_far, settled}
 use Rattle.search.proofs.PassLaws.{Passed, pass_begins, passes, asks}
 use native.Mathlib.Omega.{arith}
-use Rattle.search.proofs.climb.Goals.{else-ends-t, else-x-start, then-ends-t, then-x-start}
+use Rattle.search.proofs.climb.Goals.{else-ends-t, else-x-start, then-ends-t+else-bound-wide-2, then-x-start+else-bound-wide}
 use Rattle.search.proofs.climb.Goals as goal
+
+-- What holds before the loops: at y + more, or further on at `start`.
+abbrev Begun : List ℕ → List ℕ → ℕ → ℕ → List ℕ → List ℕ → ℕ → Type 0
+Begun periods costs n constant before ends x =
+    Climbing periods costs ends n constant x × (x < 2 ^ 25) × (length ends ≡ length before)
+
+begun_at : (periods costs : List ℕ) (n constant : ℕ) (before : List ℕ) {ends ends' : List ℕ} {x x' : ℕ} → ends ≡ ends' → x ≡ x' → Begun periods costs n constant before ends' x' → Begun periods costs n constant before ends x
+begun_at periods costs n constant before e f b = rw (e, f) b
+
+-- What holds once load t is ahead.
+abbrev Stepped : List ℕ → List ℕ → ℕ → ℕ → List ℕ → ℕ → ℕ → List ℕ → ℕ → Type 0
+Stepped periods costs n constant before from t ends x =
+    (length ends ≡ length before) × Climbing periods costs ends n constant x × (x < 2 ^ 25) × Passed ends from x (t + 1)
+
+stepped_at : (periods costs : List ℕ) (n constant : ℕ) (before : List ℕ) (from t : ℕ) {ends ends' : List ℕ} {x x' : ℕ} → ends ≡ ends' → x ≡ x' → Stepped periods costs n constant before from t ends' x' → Stepped periods costs n constant before from t ends x
+stepped_at periods costs n constant before from t e f b = rw (e, f) b
 
 pub advanced-x-requires : goal.advanced-x-requires
 advanced-x-requires c =
@@ -20,19 +36,17 @@ returns-then-bound-wide c =
 
 pub loop-ends-init : goal.loop-ends-init
 loop-ends-init c =
-    let Begun : List ℕ → ℕ → Type 0 = λ ends x. Climbing c.args.periods.now c.args.costs.now ends c.args.n (afterwards c.args.periods.now c.args.costs.now c.args.n c.args.y c.args.more) x × (x < 2 ^ 25) × (length ends ≡ length c.args.ends.now) in
-    let begun_at : {ends ends' : List ℕ} {x x' : ℕ} → ends ≡ ends' → x ≡ x' → Begun ends' x' → Begun ends x = λ e f b. rw (e, f) b in
-    let begun : Begun c.if-x-start.ends c.if-x-start.x = (elim c.if-x-start.branch [
-      | then-x-start w ↦ let climbing = climbs_start _ _ _ _ _ _ _ _ c.requires.after w.advanced-x.ensures w.if-x-start.true in
+    let begun : Begun c.args.periods.now c.args.costs.now c.args.n (afterwards c.args.periods.now c.args.costs.now c.args.n c.args.y c.args.more) c.args.ends.now c.if-x-start.ends c.if-x-start.x = (elim c.if-x-start.branch [
+      | then-x-start+else-bound-wide w ↦ let climbing = climbs_start _ _ _ _ _ _ _ _ c.requires.after w.advanced-x.ensures w.if-x-start.true in
           let small = climb_small _ _ _ _ _ _ c.requires.after.waits.fit climbing _ (total_starts _ _ _ _ _ _ _ _ c.requires.after) c.requires.bounded (omega (arith, w.if-bound-wide.false, w.wide.ensures.0)) in
-          begun_at w.EQ0-is w.EQ1-is (climbing, omega (arith, small), w.advanced-x.ensures.same_length)
-      | else-x-start w ↦ begun_at w.EQ0-is w.EQ1-is (climbs_from _ _ _ _ _ _ _ _ c.requires.after, c.requires.after.waits.small, refl)
+          begun_at c.args.periods.now c.args.costs.now c.args.n (afterwards c.args.periods.now c.args.costs.now c.args.n c.args.y c.args.more) c.args.ends.now w.ends-is w.x-is (climbing, omega (arith, small), w.advanced-x.ensures.same_length)
+      | else-x-start w ↦ begun_at c.args.periods.now c.args.costs.now c.args.n (afterwards c.args.periods.now c.args.costs.now c.args.n c.args.y c.args.more) c.args.ends.now w.ends-is w.x-is (climbs_from _ _ _ _ _ _ _ _ c.requires.after, c.requires.after.waits.small, refl)
     ]) in
-    (refl, (begun).0, (begun).1)
+    (begun.2, begun.0, begun.1)
 
 pub loop-t-init : goal.loop-t-init
 loop-t-init c =
-    (omega arith, refl, c.loop-ends.invariant.1, c.loop-ends.invariant.2, pass_begins _ _ _ (omega arith))
+    (omega arith, c.loop-ends.invariant.0, c.loop-ends.invariant.1, c.loop-ends.invariant.2, pass_begins _ _ _ (omega arith))
 
 pub offset_bounds-ends-t : goal.offset_bounds-ends-t
 offset_bounds-ends-t c =
@@ -47,29 +61,13 @@ bounds-ends-t c =
 pub ask-x-requires : goal.ask-x-requires
 ask-x-requires c =
     let in_slots : c.loop-t.t < 8 = omega (arith, c.loop-t-test.true, c.requires.after.waits.few) in
-    let Begun : List ℕ → ℕ → Type 0 = λ ends x. Climbing c.args.periods.now c.args.costs.now ends c.args.n (afterwards c.args.periods.now c.args.costs.now c.args.n c.args.y c.args.more) x × (x < 2 ^ 25) × (length ends ≡ length c.args.ends.now) in
-    let begun_at : {ends ends' : List ℕ} {x x' : ℕ} → ends ≡ ends' → x ≡ x' → Begun ends' x' → Begun ends x = λ e f b. rw (e, f) b in
-    let begun : Begun c.if-x-start.ends c.if-x-start.x = (elim c.if-x-start.branch [
-      | then-x-start w ↦ let climbing = climbs_start _ _ _ _ _ _ _ _ c.requires.after w.advanced-x.ensures w.if-x-start.true in
-          let small = climb_small _ _ _ _ _ _ c.requires.after.waits.fit climbing _ (total_starts _ _ _ _ _ _ _ _ c.requires.after) c.requires.bounded (omega (arith, w.if-bound-wide.false, w.wide.ensures.0)) in
-          begun_at w.EQ0-is w.EQ1-is (climbing, omega (arith, small), w.advanced-x.ensures.same_length)
-      | else-x-start w ↦ begun_at w.EQ0-is w.EQ1-is (climbs_from _ _ _ _ _ _ _ _ c.requires.after, c.requires.after.waits.small, refl)
-    ]) in
-    let all_ends : length c.loop-t.ends ≡ length c.args.ends.now = c.loop-t.invariant.1 ∙ c.loop-ends.invariant.0 ∙ (begun).2 in
+    let all_ends : length c.loop-t.ends ≡ length c.args.ends.now = c.loop-t.invariant.1 in
     let room : c.loop-t.t < length c.loop-t.ends = omega (arith, c.loop-t-test.true, c.requires.after.with_end, all_ends) in
     record { t_lt_slots = (in_slots, omega (arith, c.loop-t-test.true, c.requires.after.waits.fit.loads.with_period), omega (arith, c.loop-t-test.true, c.requires.after.waits.fit.loads.with_cost), omega (arith, c.loop-t-test.true, c.requires.after.free.with_free), room); behind = falls_behind _ _ _ _ _ _ c.requires.after.waits.fit c.loop-t.invariant.2 _ c.loop-t-test.true _ c.requires.after.free c.if-ends-t.true c.loop-t.invariant.3 (total_starts _ _ _ _ _ _ _ _ c.requires.after) c.requires.bounded }
 
 pub returns-then-bound-wide-2 : goal.returns-then-bound-wide-2
 returns-then-bound-wide-2 c =
-    let Begun : List ℕ → ℕ → Type 0 = λ ends x. Climbing c.args.periods.now c.args.costs.now ends c.args.n (afterwards c.args.periods.now c.args.costs.now c.args.n c.args.y c.args.more) x × (x < 2 ^ 25) × (length ends ≡ length c.args.ends.now) in
-    let begun_at : {ends ends' : List ℕ} {x x' : ℕ} → ends ≡ ends' → x ≡ x' → Begun ends' x' → Begun ends x = λ e f b. rw (e, f) b in
-    let begun : Begun c.if-x-start.ends c.if-x-start.x = (elim c.if-x-start.branch [
-      | then-x-start w ↦ let climbing = climbs_start _ _ _ _ _ _ _ _ c.requires.after w.advanced-x.ensures w.if-x-start.true in
-          let small = climb_small _ _ _ _ _ _ c.requires.after.waits.fit climbing _ (total_starts _ _ _ _ _ _ _ _ c.requires.after) c.requires.bounded (omega (arith, w.if-bound-wide.false, w.wide.ensures.0)) in
-          begun_at w.EQ0-is w.EQ1-is (climbing, omega (arith, small), w.advanced-x.ensures.same_length)
-      | else-x-start w ↦ begun_at w.EQ0-is w.EQ1-is (climbs_from _ _ _ _ _ _ _ _ c.requires.after, c.requires.after.waits.small, refl)
-    ]) in
-    let all_ends : length c.loop-t.ends ≡ length c.args.ends.now = c.loop-t.invariant.1 ∙ c.loop-ends.invariant.0 ∙ (begun).2 in
+    let all_ends : length c.loop-t.ends ≡ length c.args.ends.now = c.loop-t.invariant.1 in
     record { found = no_solution _ _ _ _ _ _ c.requires.after.waits.fit c.loop-t.invariant.2 _ c.loop-t-test.true _ _ _ c.ask-x.ensures (omega (arith, c.if-bound-wide-2.true, c.wide-then-ends-t.ensures.0)); ends_len_unchanged = c.ask-x.ensures.same_length ∙ all_ends }
 
 pub overflow_add-t : goal.overflow_add-t
@@ -83,45 +81,26 @@ loop-t-smaller c =
 
 pub loop-t-preserved : goal.loop-t-preserved
 loop-t-preserved c =
-    let Stepped : List ℕ → ℕ → Type 0 = λ ends x. (length ends ≡ length c.loop-t.ends) × Climbing c.args.periods.now c.args.costs.now ends c.args.n ((afterwards c.args.periods.now c.args.costs.now c.args.n c.args.y c.args.more)) x ×
-    (x < 2 ^ 25) × Passed ends c.loop-ends.x x (c.loop-t.t + 1) in
-    let Begun : List ℕ → ℕ → Type 0 = λ ends x. Climbing c.args.periods.now c.args.costs.now ends c.args.n (afterwards c.args.periods.now c.args.costs.now c.args.n c.args.y c.args.more) x × (x < 2 ^ 25) × (length ends ≡ length c.args.ends.now) in
-    let begun_at : {ends ends' : List ℕ} {x x' : ℕ} → ends ≡ ends' → x ≡ x' → Begun ends' x' → Begun ends x = λ e f b. rw (e, f) b in
-    let begun : Begun c.if-x-start.ends c.if-x-start.x = (elim c.if-x-start.branch [
-      | then-x-start w ↦ let climbing = climbs_start _ _ _ _ _ _ _ _ c.requires.after w.advanced-x.ensures w.if-x-start.true in
-          let small = climb_small _ _ _ _ _ _ c.requires.after.waits.fit climbing _ (total_starts _ _ _ _ _ _ _ _ c.requires.after) c.requires.bounded (omega (arith, w.if-bound-wide.false, w.wide.ensures.0)) in
-          begun_at w.EQ0-is w.EQ1-is (climbing, omega (arith, small), w.advanced-x.ensures.same_length)
-      | else-x-start w ↦ begun_at w.EQ0-is w.EQ1-is (climbs_from _ _ _ _ _ _ _ _ c.requires.after, c.requires.after.waits.small, refl)
-    ]) in
-    let all_ends : length c.loop-t.ends ≡ length c.args.ends.now = c.loop-t.invariant.1 ∙ c.loop-ends.invariant.0 ∙ (begun).2 in
+    let all_ends : length c.loop-t.ends ≡ length c.args.ends.now = c.loop-t.invariant.1 in
     let room : c.loop-t.t < length c.loop-t.ends = omega (arith, c.loop-t-test.true, c.requires.after.with_end, all_ends) in
-    let stepped_at : {ends ends' : List ℕ} {x x' : ℕ} → ends ≡ ends' → x ≡ x' → Stepped ends' x' → Stepped ends x = λ e f b. rw (e, f) b in
-    let stepped : Stepped c.if-ends-t.ends c.if-ends-t.x = (elim c.if-ends-t.branch [
-      | then-ends-t w ↦ let within : w.ask-x.result ≤ c.args.bound = omega (arith, w.if-bound-wide-2.false, w.wide-then-ends-t.ensures.0) in
+    let stepped : Stepped c.args.periods.now c.args.costs.now c.args.n (afterwards c.args.periods.now c.args.costs.now c.args.n c.args.y c.args.more) c.loop-t.ends c.loop-ends.x c.loop-t.t c.if-ends-t.ends c.if-ends-t.x = (elim c.if-ends-t.branch [
+      | then-ends-t+else-bound-wide-2 w ↦ let within : w.ask-x.result ≤ c.args.bound = omega (arith, w.if-bound-wide-2.false, w.wide-then-ends-t.ensures.0) in
           let climbing = climbs_on _ _ _ _ _ _ c.requires.after.waits.fit c.loop-t.invariant.2 _ c.loop-t-test.true _ _ _ w.ask-x.ensures (room) within in
           let small = climb_small _ _ _ _ _ _ c.requires.after.waits.fit climbing _ (total_starts _ _ _ _ _ _ _ _ c.requires.after) c.requires.bounded within in
-          stepped_at w.EQ0-is w.EQ1-is (
+          stepped_at c.args.periods.now c.args.costs.now c.args.n (afterwards c.args.periods.now c.args.costs.now c.args.n c.args.y c.args.more) c.loop-t.ends c.loop-ends.x c.loop-t.t w.ends-is w.x-is (
             w.ask-x.ensures.same_length,
             climbing,
             omega (arith, small),
             asks _ _ _ _ _ c.loop-t.invariant.4.grown (grows _ _ _ _ _ _ c.requires.after.waits.fit c.loop-t.invariant.2 _ c.loop-t-test.true _ _ _ w.ask-x.ensures w.if-ends-t.true within),
           )
-      | else-ends-t w ↦ stepped_at w.EQ0-is w.EQ1-is (refl, c.loop-t.invariant.2, c.loop-t.invariant.3, passes _ _ _ _ c.loop-t.invariant.4 w.if-ends-t.false)
+      | else-ends-t w ↦ stepped_at c.args.periods.now c.args.costs.now c.args.n (afterwards c.args.periods.now c.args.costs.now c.args.n c.args.y c.args.more) c.loop-t.ends c.loop-ends.x c.loop-t.t w.ends-is w.x-is (refl, c.loop-t.invariant.2, c.loop-t.invariant.3, passes _ _ _ _ c.loop-t.invariant.4 w.if-ends-t.false)
     ]) in
     let g = stepped in
     (omega (arith, c.loop-t-test.true), g.0 ∙ c.loop-t.invariant.1, g.1, g.2, g.3)
 
 pub returns-then-x-before : goal.returns-then-x-before
 returns-then-x-before c =
-    let Begun : List ℕ → ℕ → Type 0 = λ ends x. Climbing c.args.periods.now c.args.costs.now ends c.args.n (afterwards c.args.periods.now c.args.costs.now c.args.n c.args.y c.args.more) x × (x < 2 ^ 25) × (length ends ≡ length c.args.ends.now) in
-    let begun_at : {ends ends' : List ℕ} {x x' : ℕ} → ends ≡ ends' → x ≡ x' → Begun ends' x' → Begun ends x = λ e f b. rw (e, f) b in
-    let begun : Begun c.if-x-start.ends c.if-x-start.x = (elim c.if-x-start.branch [
-      | then-x-start w ↦ let climbing = climbs_start _ _ _ _ _ _ _ _ c.requires.after w.advanced-x.ensures w.if-x-start.true in
-          let small = climb_small _ _ _ _ _ _ c.requires.after.waits.fit climbing _ (total_starts _ _ _ _ _ _ _ _ c.requires.after) c.requires.bounded (omega (arith, w.if-bound-wide.false, w.wide.ensures.0)) in
-          begun_at w.EQ0-is w.EQ1-is (climbing, omega (arith, small), w.advanced-x.ensures.same_length)
-      | else-x-start w ↦ begun_at w.EQ0-is w.EQ1-is (climbs_from _ _ _ _ _ _ _ _ c.requires.after, c.requires.after.waits.small, refl)
-    ]) in
-    let all_ends : length c.loop-t.ends ≡ length c.args.ends.now = c.loop-t.invariant.1 ∙ c.loop-ends.invariant.0 ∙ (begun).2 in
+    let all_ends : length c.loop-t.ends ≡ length c.args.ends.now = c.loop-t.invariant.1 in
     record { found = settled _ _ _ _ _ _ c.requires.after.waits.fit c.loop-t.invariant.2 (total_starts _ _ _ _ _ _ _ _ c.requires.after) (λ t a b. c.loop-t.invariant.4.unless_grown (omega (arith, c.if-x-before.true)) t a (omega (arith, c.loop-t-test.false))) _; ends_len_unchanged = all_ends }
 
 pub loop-ends-smaller : goal.loop-ends-smaller
@@ -130,4 +109,4 @@ loop-ends-smaller c =
 
 pub loop-ends-preserved : goal.loop-ends-preserved
 loop-ends-preserved c =
-    (c.loop-t.invariant.1 ∙ c.loop-ends.invariant.0, c.loop-t.invariant.2, c.loop-t.invariant.3)
+    (c.loop-t.invariant.1, c.loop-t.invariant.2, c.loop-t.invariant.3)

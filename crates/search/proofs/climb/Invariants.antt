@@ -10,14 +10,14 @@ use Rattle.search.proofs.climb.Given as goal
 
 abbrev pub invariant-loop-t : goal.invariant-loop-t
 invariant-loop-t l =
-    (l.t ≤ l.n) × (length l.ends ≡ length l.initial.ends) × Climbing l.periods l.costs l.ends l.n (afterwards l.periods l.costs l.n l.y l.more) l.x × (l.x < 2 ^ 25) × Passed l.ends l.before l.x l.t
+    (l.t ≤ l.n) × (length l.ends ≡ length l.fn.ends) × Climbing l.periods l.costs l.ends l.n (afterwards l.periods l.costs l.n l.y l.more) l.x × (l.x < 2 ^ 25) × Passed l.ends l.before l.x l.t
 
 abbrev pub decreases-loop-t : goal.decreases-loop-t
 decreases-loop-t l = l.n - l.t
 
 abbrev pub invariant-loop-ends : goal.invariant-loop-ends
 invariant-loop-ends l =
-    (length l.ends ≡ length l.initial.ends) × Climbing l.periods l.costs l.ends l.n (afterwards l.periods l.costs l.n l.y l.more) l.x × (l.x < 2 ^ 25)
+    (length l.ends ≡ length l.fn.ends) × Climbing l.periods l.costs l.ends l.n (afterwards l.periods l.costs l.n l.y l.more) l.x × (l.x < 2 ^ 25)
 
 abbrev pub decreases-loop-ends : goal.decreases-loop-ends
 decreases-loop-ends l = 2 ^ 25 - l.x

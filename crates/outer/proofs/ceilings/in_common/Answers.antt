@@ -13,7 +13,8 @@ ceilings_of-ceilings-requires c =
 
 pub frees_of-requires : goal.frees_of-requires
 frees_of-requires c =
-    frees_fit c.args.n c.args.m c.args.lines.now _ _ c.requires c.periods_of-periods.ensures c.costs_of-costs.ensures
+    let fit = frees_fit c.args.n c.args.m c.args.lines.now _ _ c.requires c.periods_of-periods.ensures c.costs_of-costs.ensures in
+    record { n_le_most = fit.0; by_index = fit.1 }
 
 pub blockings_of-requires : goal.blockings_of-requires
 blockings_of-requires c =

@@ -5,7 +5,7 @@ use Rattle.table.specs.Limits.{most}
 use Rattle.outer.specs.Interfaces.{held_at}
 use Rattle.outer.specs.Leading.{ceiling_at}
 use Rattle.outer.proofs.EnteringLaws.{no_rival_zero, no_rival_next, entered_none, entered_behind, entered_instead, entered_first}
-use Rattle.outer.proofs.leading.with_resource.Goals.{else-ceilings-j, then-ceilings-j}
+use Rattle.outer.proofs.leading.with_resource.Goals.{else-ceilings-j, then-ceilings-j+else-deciding-j-ne0}
 use Rattle.outer.proofs.leading.with_resource.Goals as goal
 
 pub returns-then-x-eq0 : goal.returns-then-x-eq0
@@ -39,7 +39,7 @@ loop-j-preserved c = (
   turn_within _ _ c.loop-j-test.true,
   c.loop-j.invariant.1,
   no_rival_next (ceiling_at c.args.ceilings.now) c.args.l c.loop-j.deciding c.loop-j.j
-      (λ e. (elim c.if-ceilings-j.branch [ then-ceilings-j w ↦ w.t19-1.false | else-ceilings-j w ↦ absurd (w.if-ceilings-j.false e) ])) c.loop-j.invariant.2,
+      (λ e. (elim c.if-ceilings-j.branch [ then-ceilings-j+else-deciding-j-ne0 w ↦ w.if-deciding-j-ne0.false | else-ceilings-j w ↦ absurd (w.if-ceilings-j.false e) ])) c.loop-j.invariant.2,
 )
 
 pub returns : goal.returns
