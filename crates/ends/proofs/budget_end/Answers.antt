@@ -56,7 +56,8 @@ least_within-requires c =
     let periods_lent : take c.args.n c.args.common.periods ≡ (view_of (interfaces_in c.args.n c.args.m c.args.lines.now) c.args.s).periods = lent.periods_lent c.args.n c.args.m c.args.lines.now c.args.common c.requires.sound c.requires.common_value c.args.s in
     let costs_lent : take c.args.n c.args.common.costs ≡ (view_of (interfaces_in c.args.n c.args.m c.args.lines.now) c.args.s).costs = lent.costs_lent c.args.n c.args.m c.args.lines.now c.args.common c.requires.sound c.requires.common_value c.args.s in
     let frees_lent : Frees (take c.args.n c.args.common.periods) (take c.args.n c.args.common.costs) (take c.args.n c.args.common.frees) (c.args.s + 1) = lent.frees_lent c.args.n c.args.m c.args.lines.now c.args.common c.requires.sound c.requires.common_value c.args.s c.requires.s_lt_n in
-    budget_lent _ (seen) (periods_lent) (costs_lent) c.requires.counted c.ahead_of_job-ahead.ensures (frees_lent)
+    let lent_to = budget_lent _ (seen) (periods_lent) (costs_lent) c.requires.counted c.ahead_of_job-ahead.ensures (frees_lent) in
+    record { after = lent_to.0; comes_down = lent_to.1 }
 
 pub returns : goal.returns
 unfolding view_of

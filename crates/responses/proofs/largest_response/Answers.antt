@@ -70,9 +70,9 @@ loop-k-preserved c =
     let after = job_counted _ c.requires.jobs (c.loop-k.k + 1) (omega (arith, c.loop-k-test.true, c.loop-k.invariant.1)) in
     let first = job_counted _ c.requires.jobs 0 (some_jobs _ c.requires.sound_view c.requires.jobs) in (
       omega (arith, c.loop-k-test.true, c.loop-k.invariant.1),
-      (elim c.if-may_be_worse.branch [ then-may_be_worse w ↦ rw w.EQ1-is (omega (arith, w.settled_from-until.ensures.0, some_jobs _ c.requires.sound_view c.requires.jobs)) | else-may_be_worse w ↦ rw w.EQ1-is c.loop-k.invariant.1 ]),
-      (elim c.if-may_be_worse.branch [ then-may_be_worse w ↦ rw (w.EQ0-is, w.EQ1-is) (λ u. omega (arith, w.settled_from-until.ensures.1 (omega (arith, u)))) | else-may_be_worse w ↦ rw (w.EQ0-is, w.EQ1-is) c.loop-k.invariant.2 ]),
-      (elim c.if-may_be_worse.branch [ then-may_be_worse w ↦ rw w.EQ0-is (worst_to_judged _ c.loop-k.k (response_above_zero _ c.requires.sound_view first) c.loop-k.worst c.loop-k.invariant.3 w.job_response-job.ensures w.worse-worst.ensures) | else-may_be_worse w ↦ rw w.EQ0-is (passed_over _ c.requires.sound_view c.loop-k.k here c.loop-k.worst (ended_by _ c.requires.sound_view c.loop-k.k here after c.loop-k.invariant.4 c.next_end-next.ensures.is_end c.requires.sound_view.own_cost _ c.is_plain-plain.ensures (c.may_be_worse.ensures w.if-may_be_worse.false)) c.loop-k.invariant.3) ]),
+      (elim c.if-may_be_worse.branch [ then-may_be_worse w ↦ rw w.until-is (omega (arith, w.settled_from-until.ensures.0, some_jobs _ c.requires.sound_view c.requires.jobs)) | else-may_be_worse w ↦ rw w.until-is c.loop-k.invariant.1 ]),
+      (elim c.if-may_be_worse.branch [ then-may_be_worse w ↦ rw (w.worst-is, w.until-is) (λ u. omega (arith, w.settled_from-until.ensures.1 (omega (arith, u)))) | else-may_be_worse w ↦ rw (w.worst-is, w.until-is) c.loop-k.invariant.2 ]),
+      (elim c.if-may_be_worse.branch [ then-may_be_worse w ↦ rw w.worst-is (worst_to_judged _ c.loop-k.k (response_above_zero _ c.requires.sound_view first) c.loop-k.worst c.loop-k.invariant.3 w.job_response-job.ensures w.worse-worst.ensures) | else-may_be_worse w ↦ rw w.worst-is (passed_over _ c.requires.sound_view c.loop-k.k here c.loop-k.worst (ended_by _ c.requires.sound_view c.loop-k.k here after c.loop-k.invariant.4 c.next_end-next.ensures.is_end c.requires.sound_view.own_cost _ c.is_plain-plain.ensures (c.may_be_worse.ensures w.if-may_be_worse.false)) c.loop-k.invariant.3) ]),
       c.next_end-next.ensures,
     )
 

@@ -16,7 +16,7 @@ loop-i-preserved c = (
   search rules,
   search rules,
   judged_task_lem c.args.m c.args.subsystem c.args.block.now c.loop-i.i c.loop-i.found _ (omega arith) c.loop-i.invariant.2
-      ((elim c.if-is_refused.branch [ then-is_refused w ↦ w.EQ0-is ∙ w.earlier-found.ensures | else-is_refused w ↦ w.EQ0-is ∙ as_it_was c.loop-i.found c.judged_task-next.result (sym c.is_refused.ensures ∙ w.if-is_refused.false) ]) ∙ ap (earlier c.loop-i.found) c.judged_task-next.ensures),
+      ((elim c.if-is_refused.branch [ then-is_refused w ↦ w.found-is ∙ w.earlier-found.ensures | else-is_refused w ↦ w.found-is ∙ as_it_was c.loop-i.found c.judged_task-next.result (sym c.is_refused.ensures ∙ w.if-is_refused.false) ]) ∙ ap (earlier c.loop-i.found) c.judged_task-next.ensures),
 )
 
 pub returns : goal.returns
