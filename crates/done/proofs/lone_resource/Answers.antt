@@ -3,7 +3,7 @@ use mathlib.Core.Path.{◌≡◌}
 use mathlib.Core.Logic.{⊎_elim}
 use native.Mathlib.Omega.{arith}
 use Rattle.lists.proofs.Over.{le_or_lt}
-use Rattle.done.proofs.lone_resource.Goals.{else-holdings-l-ne0, then-holdings-l-ne0}
+use Rattle.done.proofs.lone_resource.Goals.{else-holdings-l-ne0, then-holdings-l-ne0+else-lone-ne0+else-ceilings-l}
 use Rattle.done.proofs.lone_resource.Goals as goal
 
 pub loop-l-init : goal.loop-l-init
@@ -39,17 +39,17 @@ loop-l-preserved c = (
       ⊎_elim
       (λ (q : c.loop-l.l ≤ t).
       let same : t ≡ c.loop-l.l = omega (arith, q, u) in
-      (elim c.if-holdings-l-ne0.branch [ then-holdings-l-ne0 w ↦ absurd (n (omega (arith, same, w.EQ0-is))) | else-holdings-l-ne0 w ↦ rw same (omega (arith, w.if-holdings-l-ne0.false)) ]))
+      (elim c.if-holdings-l-ne0.branch [ then-holdings-l-ne0+else-lone-ne0+else-ceilings-l w ↦ absurd (n (omega (arith, same, w.lone-is))) | else-holdings-l-ne0 w ↦ rw same (omega (arith, w.if-holdings-l-ne0.false)) ]))
       (λ (q : t < c.loop-l.l).
       c.loop-l.invariant.1 t q
-      (λ e. (elim c.if-holdings-l-ne0.branch [ then-holdings-l-ne0 w ↦ absurd (omega (arith, e, w.if-lone-ne0.false)) | else-holdings-l-ne0 w ↦ n (omega (arith, e, w.EQ0-is)) ])))
+      (λ e. (elim c.if-holdings-l-ne0.branch [ then-holdings-l-ne0+else-lone-ne0+else-ceilings-l w ↦ absurd (omega (arith, e, w.if-lone-ne0.false)) | else-holdings-l-ne0 w ↦ n (omega (arith, e, w.lone-is)) ])))
       (le_or_lt c.loop-l.l t),
   λ g.
       (elim c.if-holdings-l-ne0.branch [
-        | then-holdings-l-ne0 w ↦ let e : c.if-holdings-l-ne0.lone - 1 ≡ c.loop-l.l = omega (arith, w.EQ0-is) in
-            (omega (arith, w.EQ0-is), rw e (omega (arith, w.if-holdings-l-ne0.true)), rw e w.if-ceilings-l.false)
-        | else-holdings-l-ne0 w ↦ let i = c.loop-l.invariant.2 (omega (arith, g, w.EQ0-is)) in
-            (omega (arith, i.0, w.EQ0-is), rw w.EQ0-is i.1, rw w.EQ0-is i.2)
+        | then-holdings-l-ne0+else-lone-ne0+else-ceilings-l w ↦ let e : c.if-holdings-l-ne0.lone - 1 ≡ c.loop-l.l = omega (arith, w.lone-is) in
+            (omega (arith, w.lone-is), rw e (omega (arith, w.if-holdings-l-ne0.true)), rw e w.if-ceilings-l.false)
+        | else-holdings-l-ne0 w ↦ let i = c.loop-l.invariant.2 (omega (arith, g, w.lone-is)) in
+            (omega (arith, i.0, w.lone-is), rw w.lone-is i.1, rw w.lone-is i.2)
       ]),
 )
 

@@ -14,21 +14,20 @@ deadline-requires c =
 
 pub held_within-requires : goal.held_within-requires
 held_within-requires c =
-    let ok : Within c.args.m c.args.block.now c.requires.ready.sound c.args.i = task_within _ _ c.requires.ready.sound _ c.requires.i_bound.0 in (
-      tasks_are_loads c.args.m c.args.block.now c.requires.ready.sound c.args.i c.requires.i_bound.0 _ _ c.requires.i_bound.2,
-      (
-        record {
-          budget_least = omega (arith, c.budget.ensures, some_budget _ _ c.requires.ready.sound);
-          budget_by_end = omega (arith, c.budget.ensures, c.requires.ready.budget_by_end);
-          end_by_period = omega (arith, c.period.ensures, c.requires.ready.end_by_period);
-        },
-        (
-          omega (arith, c.wide-2.ensures.0, c.work.ensures, ok.work_least),
-          omega (arith, c.wide.ensures.1, c.wide-2.ensures.1),
-          omega (arith, c.deadline.ensures, ok.deadline_most),
-        ),
-      ),
-    )
+    let ok : Within c.args.m c.args.block.now c.requires.ready.sound c.args.i = task_within _ _ c.requires.ready.sound _ c.requires.i_bound.0 in
+    record {
+      loads = tasks_are_loads c.args.m c.args.block.now c.requires.ready.sound c.args.i c.requires.i_bound.0 _ _ c.requires.i_bound.2;
+      sharing = record {
+        budget_least = omega (arith, c.budget.ensures, some_budget _ _ c.requires.ready.sound);
+        budget_by_end = omega (arith, c.budget.ensures, c.requires.ready.budget_by_end);
+        end_by_period = omega (arith, c.period.ensures, c.requires.ready.end_by_period);
+      };
+      le_constant = (
+        omega (arith, c.wide-2.ensures.0, c.work.ensures, ok.work_least),
+        omega (arith, c.wide.ensures.1, c.wide-2.ensures.1),
+        omega (arith, c.deadline.ensures, ok.deadline_most),
+      );
+    }
 
 pub returns : goal.returns
 returns c =

@@ -8,6 +8,7 @@ use Rattle.table.specs.Limits.{most}
 use Rattle.table.specs.Grid.{count_in, subsystem_in}
 use Rattle.local.specs.Blocking.{task_blocking}
 use Rattle.local.proofs.BlockingLaws.{raised_by_none, blockings_begin, blockings_of_one}
+use Rattle.local.proofs.blocking.task_blockings.Goals.{then-held-l-ne0, else-held-l-ne0}
 use Rattle.local.proofs.blocking.task_blockings.Goals as goal
 
 pub returns-then-count-eq1 : goal.returns-then-count-eq1
@@ -31,12 +32,11 @@ loop-l-preserved c =
     let u = subsystem_in c.args.m c.args.block.now in
     let n = count_in c.args.block.now in (
       turn_within _ _ c.loop-l-test.true,
-      ⊎_elim {C = c.if-held-l-ne0.blockings ≡ padded (task_blocking (c.loop-l.l + 1) u) 0 most n}
-          (λ w. w.3 ∙ w.2.ensures)
-          (λ w.
-          w.1 ∙
-          raised_by_none u c.args.m c.loop-l.l n c.args.held.now c.loop-l.blockings c.loop-l-test.true c.requires.held_value (omega (arith, w.0.left)) c.loop-l.invariant.1)
-          c.if-held-l-ne0.branch,
+      elim c.if-held-l-ne0.branch [
+        | then-held-l-ne0 w ↦ w.blockings-is ∙ w.raise_by.ensures
+        | else-held-l-ne0 w ↦ w.blockings-is ∙
+            raised_by_none u c.args.m c.loop-l.l n c.args.held.now c.loop-l.blockings c.loop-l-test.true c.requires.held_value (omega (arith, w.if-held-l-ne0.false)) c.loop-l.invariant.1
+      ],
     )
 
 pub returns : goal.returns
