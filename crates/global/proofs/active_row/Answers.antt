@@ -12,7 +12,12 @@ round_up-n-requires c =
 pub largest_response-worst-requires : goal.largest_response-worst-requires
 unfolding jobs
 largest_response-worst-requires c =
-    (c.requires.sound_view, (record { is_active = c.requires.own_value; all = c.round_up-n.ensures }, c.requires.TAIL2))
+    record {
+      sound_view = c.requires.sound_view;
+      jobs = record { is_active = c.requires.own_value; all = c.round_up-n.ensures };
+      first_end = c.requires.first_end;
+      frees = c.requires.frees;
+    }
 
 pub row_with-requires : goal.row_with-requires
 row_with-requires c =

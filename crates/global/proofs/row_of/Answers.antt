@@ -15,9 +15,6 @@ use Rattle.global.proofs.SeenLaws.{led_part, own_is, seen_sound, seen_row}
 use Rattle.row.proofs.RowLaws.{never_active}
 use Rattle.global.proofs.row_of.Goals as goal
 
-abbrev Entry : Type 0
-Entry = tie.Start
-
 pub leading-held-requires : goal.leading-held-requires
 leading-held-requires c =
     let listed : c.args.s < most = omega (arith, few_of c.args.n c.args.m c.args.lines.now c.requires.sound.0, c.requires.sound.1) in

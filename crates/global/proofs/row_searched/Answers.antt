@@ -34,7 +34,12 @@ returns-then-nearly_all c =
 
 pub active_row-requires : goal.active_row-requires
 active_row-requires c =
-    (c.requires.sound_view, (c.active_from-active.ensures.at c.if-active-gt-HORIZON.false, c.requires.TAIL1))
+    record {
+      sound_view = c.requires.sound_view;
+      own_value = c.active_from-active.ensures.at c.if-active-gt-HORIZON.false;
+      first_end = c.requires.first_end;
+      frees = c.requires.frees;
+    }
 
 pub returns : goal.returns
 returns c =
