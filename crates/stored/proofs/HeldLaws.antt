@@ -100,8 +100,8 @@ held_of_slots t h =
 ------------------------------------------------------------------------
 -- The elements of an array, by what the array's row says
 
-pub each_element : {X Y : Type 0} (own : X → List Val → Fml) (to : Y → X) (P : Y → Type 0) → ((y : Y) (vs : List Val) → shadow (own (to y) vs) → P y) → (d : Y) → P d → (ys : List Y) (us : List Val) (i : ℕ) → shadow (each X own (map to ys) us) → P (get_or ys i d)
-each_element own to P tells d pd [] us i s = pd
-each_element own to P tells d pd (y ∷ ys) [] i s = absurd s
-each_element own to P tells d pd (y ∷ ys) (u ∷ us) zero s = tells y (u ∷ []) s.0
-each_element own to P tells d pd (y ∷ ys) (u ∷ us) (suc i) s = each_element own to P tells d pd ys us i s.1
+pub each_element : {Y : Type 0} (own : Y → List Val → Fml) (P : Y → Type 0) → ((y : Y) (vs : List Val) → shadow (own y vs) → P y) → (d : Y) → P d → (ys : List Y) (us : List Val) (i : ℕ) → shadow (each Y own ys us) → P (get_or ys i d)
+each_element own P tells d pd [] us i s = pd
+each_element own P tells d pd (y ∷ ys) [] i s = absurd s
+each_element own P tells d pd (y ∷ ys) (u ∷ us) zero s = tells y (u ∷ []) s.0
+each_element own P tells d pd (y ∷ ys) (u ∷ us) (suc i) s = each_element own P tells d pd ys us i s.1

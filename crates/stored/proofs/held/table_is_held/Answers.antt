@@ -13,7 +13,7 @@ use Rattle.table.specs.Meaning.{past_tasks, past_subsystems}
 use Rattle.stored.proofs.HeldLaws.{HeldTaskSlot, HeldSlot, past_tasks_held, past_subsystems_held, held_of_slots, each_element}
 use Rattle.stored.proofs.held.table_is_held.Goals as goal
 
-task-told : (t : Task) (vs : List Val) → shadow ((task.the_field).row.own_val ((task.the_type).to t) vs) → HeldTaskSlot t
+task-told : (t : Task) (vs : List Val) → shadow ((task.the_row).own_val t vs) → HeldTaskSlot t
 task-told t vs h =
     record {
       separation = h.1.1.0.1;
@@ -22,14 +22,14 @@ task-told t vs h =
       access = λ l. (elem_Fits w32 w32 t.access _ l h.1.1.1.1.1.0.1.1 tt).fits;
     }
 
-subsystem-told : (u : Subsystem) (vs : List Val) → shadow ((subsystem.the_field).row.own_val ((subsystem.the_type).to u) vs) → HeldSlot u
+subsystem-told : (u : Subsystem) (vs : List Val) → shadow ((subsystem.the_row).own_val u vs) → HeldSlot u
 subsystem-told u vs h =
     record {
       period = h.1.1.0.1;
       budget = h.1.1.1.0.1;
-      task = λ i. each_element (task.the_field).row.own_val (task.the_type).to HeldTaskSlot task-told past_tasks past_tasks_held u.tasks _ i h.1.1.1.1.1.0.1.1;
+      task = λ i. each_element (task.the_row).own_val HeldTaskSlot task-told past_tasks past_tasks_held u.tasks _ i h.1.1.1.1.1.0.1.1;
     }
 
 pub returns : goal.returns
 returns c =
-    held_of_slots c.args.t (λ s. each_element (subsystem.the_field).row.own_val (subsystem.the_type).to HeldSlot subsystem-told past_subsystems past_subsystems_held c.args.t.subsystems _ s c.well_formed.0.1.1.1.1.0.1.1)
+    held_of_slots c.args.t (λ s. each_element (subsystem.the_row).own_val HeldSlot subsystem-told past_subsystems past_subsystems_held c.args.t.subsystems _ s c.well_formed.0.1.1.1.1.0.1.1)
