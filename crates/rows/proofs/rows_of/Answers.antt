@@ -45,42 +45,42 @@ first_failing_task-failing-requires c =
 
 pub slice_bounds-periods-end : goal.slice_bounds-periods-end
 slice_bounds-periods-end c =
-    let periods_long : (c).args.n ≤ length c.in_common-common.result.periods = lent.periods_long (c).args.n (c).args.m _ _ (sound_lines _ _ _ _ c.interfaces_of.ensures (c).pre.0) c.in_common-common.ensures in
+    let periods_long : c.args.n ≤ length c.in_common-common.result.periods = lent.periods_long c.args.n c.args.m _ _ (sound_lines _ _ _ _ c.interfaces_of.ensures c.requires.sound_system) c.in_common-common.ensures in
     periods_long
 
 pub slice_bounds-row_of-end : goal.slice_bounds-row_of-end
 slice_bounds-row_of-end c =
-    let periods_long : (c).args.n ≤ length c.in_common-common.result.periods = lent.periods_long (c).args.n (c).args.m _ _ (sound_lines _ _ _ _ c.interfaces_of.ensures (c).pre.0) c.in_common-common.ensures in
+    let periods_long : c.args.n ≤ length c.in_common-common.result.periods = lent.periods_long c.args.n c.args.m _ _ (sound_lines _ _ _ _ c.interfaces_of.ensures c.requires.sound_system) c.in_common-common.ensures in
     used_length _ _ (periods_long)
 
 pub slice_bounds-costs-end : goal.slice_bounds-costs-end
 slice_bounds-costs-end c =
-    let costs_long : (c).args.n ≤ length c.in_common-common.result.costs = lent.costs_long (c).args.n (c).args.m _ _ (sound_lines _ _ _ _ c.interfaces_of.ensures (c).pre.0) c.in_common-common.ensures in
+    let costs_long : c.args.n ≤ length c.in_common-common.result.costs = lent.costs_long c.args.n c.args.m _ _ (sound_lines _ _ _ _ c.interfaces_of.ensures c.requires.sound_system) c.in_common-common.ensures in
     costs_long
 
 pub slice_bounds-row_of-end-in-loop-s : goal.slice_bounds-row_of-end-in-loop-s
 slice_bounds-row_of-end-in-loop-s c =
-    let costs_long : (c).args.n ≤ length c.in_common-common.result.costs = lent.costs_long (c).args.n (c).args.m _ _ (sound_lines _ _ _ _ c.interfaces_of.ensures (c).pre.0) c.in_common-common.ensures in
+    let costs_long : c.args.n ≤ length c.in_common-common.result.costs = lent.costs_long c.args.n c.args.m _ _ (sound_lines _ _ _ _ c.interfaces_of.ensures c.requires.sound_system) c.in_common-common.ensures in
     used_length _ _ (costs_long)
 
 pub slice_bounds-frees-end : goal.slice_bounds-frees-end
 slice_bounds-frees-end c =
-    let frees_long : (c).args.n ≤ length c.in_common-common.result.frees = lent.frees_long (c).args.n (c).args.m _ _ (sound_lines _ _ _ _ c.interfaces_of.ensures (c).pre.0) c.in_common-common.ensures in
+    let frees_long : c.args.n ≤ length c.in_common-common.result.frees = lent.frees_long c.args.n c.args.m _ _ (sound_lines _ _ _ _ c.interfaces_of.ensures c.requires.sound_system) c.in_common-common.ensures in
     frees_long
 
 pub slice_bounds-row_of-end-in-loop-s-2 : goal.slice_bounds-row_of-end-in-loop-s-2
 slice_bounds-row_of-end-in-loop-s-2 c =
-    let frees_long : (c).args.n ≤ length c.in_common-common.result.frees = lent.frees_long (c).args.n (c).args.m _ _ (sound_lines _ _ _ _ c.interfaces_of.ensures (c).pre.0) c.in_common-common.ensures in
+    let frees_long : c.args.n ≤ length c.in_common-common.result.frees = lent.frees_long c.args.n c.args.m _ _ (sound_lines _ _ _ _ c.interfaces_of.ensures c.requires.sound_system) c.in_common-common.ensures in
     used_length _ _ (frees_long)
 
 pub slice_bounds-ceilings-end : goal.slice_bounds-ceilings-end
 slice_bounds-ceilings-end c =
-    let ceilings_long : (c).args.m ≤ length c.in_common-common.result.ceilings = lent.ceilings_long (c).args.n (c).args.m _ _ (sound_lines _ _ _ _ c.interfaces_of.ensures (c).pre.0) c.in_common-common.ensures in
+    let ceilings_long : c.args.m ≤ length c.in_common-common.result.ceilings = lent.ceilings_long c.args.n c.args.m _ _ (sound_lines _ _ _ _ c.interfaces_of.ensures c.requires.sound_system) c.in_common-common.ensures in
     ceilings_long
 
 pub slice_bounds-row_of-end-in-loop-s-3 : goal.slice_bounds-row_of-end-in-loop-s-3
 slice_bounds-row_of-end-in-loop-s-3 c =
-    let ceilings_long : (c).args.m ≤ length c.in_common-common.result.ceilings = lent.ceilings_long (c).args.n (c).args.m _ _ (sound_lines _ _ _ _ c.interfaces_of.ensures (c).pre.0) c.in_common-common.ensures in
+    let ceilings_long : c.args.m ≤ length c.in_common-common.result.ceilings = lent.ceilings_long c.args.n c.args.m _ _ (sound_lines _ _ _ _ c.interfaces_of.ensures c.requires.sound_system) c.in_common-common.ensures in
     used_length _ _ (ceilings_long)
 
 pub row_of-requires : goal.row_of-requires
