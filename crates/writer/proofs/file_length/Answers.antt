@@ -24,22 +24,22 @@ loop-s-init c =
 
 pub overflow_mul-total : goal.overflow_mul-total
 overflow_mul-total c =
-    let slots : length c.args.t.subsystems ≡ most = sym (length-map c.args.t.subsystems _) ∙ c.well_formed.0.1.1.1.1.0.1.0.1 in
-    let tasks_counted : (c.if-s-lt-MOST.tasks ≡ (get_or c.args.t.subsystems c.loop-s.s past_subsystems).count) × (c.if-s-lt-MOST.tasks < 256) = (elim c.if-s-lt-MOST.branch [ then-s-lt-MOST w ↦ (w.EQ0-is, omega (arith, w.EQ0-is, w.struct_known-1.given.1.1.0)) | else-s-lt-MOST w ↦ (w.EQ0-is ∙ sym (ap (λ (u : Subsystem). u.count) (get_or-eq_default c.args.t.subsystems past_subsystems {n = c.loop-s.s} (omega (arith, w.if-s-lt-MOST.false, slots)))), omega (arith, w.EQ0-is)) ]) in
+    let slots : length c.args.t.subsystems ≡ most = c.well_formed.0.1.1.1.1.0.1.0.1 in
+    let tasks_counted : (c.if-s-lt-MOST.tasks ≡ (get_or c.args.t.subsystems c.loop-s.s past_subsystems).count) × (c.if-s-lt-MOST.tasks < 256) = (elim c.if-s-lt-MOST.branch [ then-s-lt-MOST w ↦ (w.tasks-is, omega (arith, w.tasks-is, w.struct_known-1)) | else-s-lt-MOST w ↦ (w.tasks-is ∙ sym (ap (λ (u : Subsystem). u.count) (get_or-eq_default c.args.t.subsystems past_subsystems {n = c.loop-s.s} (omega (arith, w.if-s-lt-MOST.false, slots)))), omega (arith, w.tasks-is)) ]) in
     let bytes_bounded : c.if-s-lt-MOST.tasks * field_size (task_length c.args.t.resources) ≤ 263925 = size-bounded c.if-s-lt-MOST.tasks c.args.t.resources (tasks_counted).1 (omega arith) in
     omega (arith, bytes_bounded)
 
 pub overflow_add-total-in-loop-s-2 : goal.overflow_add-total-in-loop-s-2
 overflow_add-total-in-loop-s-2 c =
-    let slots : length c.args.t.subsystems ≡ most = sym (length-map c.args.t.subsystems _) ∙ c.well_formed.0.1.1.1.1.0.1.0.1 in
-    let tasks_counted : (c.if-s-lt-MOST.tasks ≡ (get_or c.args.t.subsystems c.loop-s.s past_subsystems).count) × (c.if-s-lt-MOST.tasks < 256) = (elim c.if-s-lt-MOST.branch [ then-s-lt-MOST w ↦ (w.EQ0-is, omega (arith, w.EQ0-is, w.struct_known-1.given.1.1.0)) | else-s-lt-MOST w ↦ (w.EQ0-is ∙ sym (ap (λ (u : Subsystem). u.count) (get_or-eq_default c.args.t.subsystems past_subsystems {n = c.loop-s.s} (omega (arith, w.if-s-lt-MOST.false, slots)))), omega (arith, w.EQ0-is)) ]) in
+    let slots : length c.args.t.subsystems ≡ most = c.well_formed.0.1.1.1.1.0.1.0.1 in
+    let tasks_counted : (c.if-s-lt-MOST.tasks ≡ (get_or c.args.t.subsystems c.loop-s.s past_subsystems).count) × (c.if-s-lt-MOST.tasks < 256) = (elim c.if-s-lt-MOST.branch [ then-s-lt-MOST w ↦ (w.tasks-is, omega (arith, w.tasks-is, w.struct_known-1)) | else-s-lt-MOST w ↦ (w.tasks-is ∙ sym (ap (λ (u : Subsystem). u.count) (get_or-eq_default c.args.t.subsystems past_subsystems {n = c.loop-s.s} (omega (arith, w.if-s-lt-MOST.false, slots)))), omega (arith, w.tasks-is)) ]) in
     let bytes_bounded : c.if-s-lt-MOST.tasks * field_size (task_length c.args.t.resources) ≤ 263925 = size-bounded c.if-s-lt-MOST.tasks c.args.t.resources (tasks_counted).1 (omega arith) in
     omega (arith, bytes_bounded)
 
 pub overflow_add-total-in-loop-s-3 : goal.overflow_add-total-in-loop-s-3
 overflow_add-total-in-loop-s-3 c =
-    let slots : length c.args.t.subsystems ≡ most = sym (length-map c.args.t.subsystems _) ∙ c.well_formed.0.1.1.1.1.0.1.0.1 in
-    let tasks_counted : (c.if-s-lt-MOST.tasks ≡ (get_or c.args.t.subsystems c.loop-s.s past_subsystems).count) × (c.if-s-lt-MOST.tasks < 256) = (elim c.if-s-lt-MOST.branch [ then-s-lt-MOST w ↦ (w.EQ0-is, omega (arith, w.EQ0-is, w.struct_known-1.given.1.1.0)) | else-s-lt-MOST w ↦ (w.EQ0-is ∙ sym (ap (λ (u : Subsystem). u.count) (get_or-eq_default c.args.t.subsystems past_subsystems {n = c.loop-s.s} (omega (arith, w.if-s-lt-MOST.false, slots)))), omega (arith, w.EQ0-is)) ]) in
+    let slots : length c.args.t.subsystems ≡ most = c.well_formed.0.1.1.1.1.0.1.0.1 in
+    let tasks_counted : (c.if-s-lt-MOST.tasks ≡ (get_or c.args.t.subsystems c.loop-s.s past_subsystems).count) × (c.if-s-lt-MOST.tasks < 256) = (elim c.if-s-lt-MOST.branch [ then-s-lt-MOST w ↦ (w.tasks-is, omega (arith, w.tasks-is, w.struct_known-1)) | else-s-lt-MOST w ↦ (w.tasks-is ∙ sym (ap (λ (u : Subsystem). u.count) (get_or-eq_default c.args.t.subsystems past_subsystems {n = c.loop-s.s} (omega (arith, w.if-s-lt-MOST.false, slots)))), omega (arith, w.tasks-is)) ]) in
     let bytes_bounded : c.if-s-lt-MOST.tasks * field_size (task_length c.args.t.resources) ≤ 263925 = size-bounded c.if-s-lt-MOST.tasks c.args.t.resources (tasks_counted).1 (omega arith) in
     omega (arith, bytes_bounded, c.loop-s.invariant)
 
@@ -49,8 +49,8 @@ loop-s-smaller c =
 
 pub loop-s-preserved : goal.loop-s-preserved
 loop-s-preserved c =
-    let slots : length c.args.t.subsystems ≡ most = sym (length-map c.args.t.subsystems _) ∙ c.well_formed.0.1.1.1.1.0.1.0.1 in
-    let tasks_counted : (c.if-s-lt-MOST.tasks ≡ (get_or c.args.t.subsystems c.loop-s.s past_subsystems).count) × (c.if-s-lt-MOST.tasks < 256) = (elim c.if-s-lt-MOST.branch [ then-s-lt-MOST w ↦ (w.EQ0-is, omega (arith, w.EQ0-is, w.struct_known-1.given.1.1.0)) | else-s-lt-MOST w ↦ (w.EQ0-is ∙ sym (ap (λ (u : Subsystem). u.count) (get_or-eq_default c.args.t.subsystems past_subsystems {n = c.loop-s.s} (omega (arith, w.if-s-lt-MOST.false, slots)))), omega (arith, w.EQ0-is)) ]) in
+    let slots : length c.args.t.subsystems ≡ most = c.well_formed.0.1.1.1.1.0.1.0.1 in
+    let tasks_counted : (c.if-s-lt-MOST.tasks ≡ (get_or c.args.t.subsystems c.loop-s.s past_subsystems).count) × (c.if-s-lt-MOST.tasks < 256) = (elim c.if-s-lt-MOST.branch [ then-s-lt-MOST w ↦ (w.tasks-is, omega (arith, w.tasks-is, w.struct_known-1)) | else-s-lt-MOST w ↦ (w.tasks-is ∙ sym (ap (λ (u : Subsystem). u.count) (get_or-eq_default c.args.t.subsystems past_subsystems {n = c.loop-s.s} (omega (arith, w.if-s-lt-MOST.false, slots)))), omega (arith, w.tasks-is)) ]) in
     let bytes_bounded : c.if-s-lt-MOST.tasks * field_size (task_length c.args.t.resources) ≤ 263925 = size-bounded c.if-s-lt-MOST.tasks c.args.t.resources (tasks_counted).1 (omega arith) in (
       turn_within _ _ c.loop-s-test.true,
       length_one_subsystem_more c.args.t c.loop-s.s c.loop-s.total c.if-s-lt-MOST.tasks c.loop-s.invariant.1 (tasks_counted).0,

@@ -8,12 +8,15 @@ use Rattle.writer.proofs.write_table.Goals as goal
 
 pub returns-in-Refused : goal.returns-in-Refused
 returns-in-Refused c =
-    uncounted (meaning c.args.t) c.args.buf.now _ c.judge_counts-counts.ensures c.in-Refused.field-0 c.in-Refused.place c.in-Refused.is
+    let e = uncounted (meaning c.args.t) c.args.buf.now _ c.judge_counts-counts.ensures c.in-Refused.field-0 c.in-Refused.place c.in-Refused.is in
+    record { value = e.0; buf_after = e.1 }
 
 pub returns-then-buf-len : goal.returns-then-buf-len
 returns-then-buf-len c =
-    no_room (meaning c.args.t) c.args.buf.now _ c.judge_counts-counts.ensures c.in_default.is
-    (rw (← c.file_length-len.ensures) c.if-buf-len.true)
+    let e =
+        no_room (meaning c.args.t) c.args.buf.now _ c.judge_counts-counts.ensures c.in_default.is
+        (rw (← c.file_length-len.ensures) c.if-buf-len.true) in
+    record { value = e.0; buf_after = e.1 }
 
 pub put_file-put-requires : goal.put_file-put-requires
 put_file-put-requires c =
@@ -21,6 +24,8 @@ put_file-put-requires c =
 
 pub returns : goal.returns
 returns c =
-    file_put (meaning c.args.t) c.args.buf.now _ c.judge_counts-counts.ensures c.in_default.is c.put_file-put.new.free c.put_file-put.result
-    (rw (← c.file_length-len.ensures) c.if-buf-len.false)
-    c.put_file-put.ensures
+    let e =
+        file_put (meaning c.args.t) c.args.buf.now _ c.judge_counts-counts.ensures c.in_default.is c.put_file-put.new.free c.put_file-put.result
+        (rw (← c.file_length-len.ensures) c.if-buf-len.false)
+        c.put_file-put.ensures in
+    record { value = e.0; buf_after = e.1 }
