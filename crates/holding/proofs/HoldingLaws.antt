@@ -4,7 +4,7 @@ use Prim.Native.Nat.{ℕ, zero, suc, ◌+◌, ◌-◌, ◌≤◌, ◌<◌, max}
 use native.Mathlib.Nat.{sub-zero, le_trans}
 use native.Mathlib.Omega.{arith}
 use mathlib.Core.Path.{◌≡◌, refl, sym, ap, ◌∙◌}
-use mathlib.Core.Bool.{Bool, true, false, cond}
+use mathlib.Core.Bool.{Bool, cond}
 use mathlib.Core.Option.{Option, none, some, get_or}
 use borrow.Author.Tests.{lt-ltb, le-ltb}
 use mathlib.Core.List.{List}
@@ -12,7 +12,7 @@ use lib.Dec.{ltb}
 use lib.ListN.{replicate}
 use Rattle.lists.specs.Range.{sum_to, largest_to, first_such, padded}
 use Rattle.lists.proofs.First.{first_such_here, first_such_next, first_such_over, first_such_means, first_such_ext}
-use Rattle.lists.proofs.Over.{sum_to_suc, sum_to_ext, largest_to_suc, largest_to_ext, below_largest}
+use Rattle.lists.proofs.Over.{sum_to_suc, sum_to_ext, largest_to_ext, below_largest}
 use Rattle.table.specs.Limits.{most}
 use Rattle.table.specs.Meaning.{SubsystemM}
 use Rattle.table.specs.Parts.{task_count, task_of, access_of, work_of}

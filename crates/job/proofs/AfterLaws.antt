@@ -1,5 +1,5 @@
 -- Laws of the search for a job end from where the budget ended: where it ends, and the response that it gives. Assumes nothing.
-use Prim.Native.Nat.{ℕ, ◌+◌, ◌-◌, ◌≤◌, ◌<◌}
+use Prim.Native.Nat.{ℕ, ◌+◌, ◌-◌, ◌≤◌}
 use native.Mathlib.Nat.{sub-add_cancel}
 use native.Mathlib.Omega.{arith}
 use mathlib.Core.List.{List}

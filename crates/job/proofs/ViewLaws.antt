@@ -7,7 +7,7 @@ use Rattle.lists.proofs.Over.{largest_to_ext, largest_at_most}
 use Rattle.lists.proofs.UpTo.{length_up_to, get_d_up_to}
 use Rattle.least.specs.Search.{Loads}
 use Rattle.search.specs.After.{Fit}
-use Rattle.table.specs.Limits.{most, largest}
+use Rattle.table.specs.Limits.{largest}
 use Rattle.outer.specs.Interfaces.{InterfacesM}
 use Rattle.outer.specs.Parts.{count, period_of, budget_of, holding_of, holding, cost_of, periods, costs}
 use Rattle.outer.specs.Blocking.{outer_ceiling, blocking_by, blocking}

@@ -10,7 +10,6 @@ use lib.ListN.{length, get_or, set, replicate, length-set, length-replicate}
 use Rattle.least.specs.Up.{up}
 use Rattle.least.specs.Demand.{demand, total}
 use Rattle.least.specs.Share.{unit, shares, standing_at}
-use Rattle.least.specs.Least.{least}
 use Rattle.least.specs.Search.{Stands, ComesDown, IsLeast, Starts}
 use Rattle.search.specs.After.{Fit, EndsAt, afterwards, Waits, Frees, After, Found}
 use Rattle.least.proofs.Up.{up_pos, up_is_tight}

@@ -1,12 +1,12 @@
 -- How a number is written: its one digit, its two, or its front and then its last two. Assumes nothing.
-use Prim.Native.Nat.{ℕ, suc, ◌+◌, ◌/◌, ◌%◌, ◌≤◌, ◌<◌, ◌^◌}
+use Prim.Native.Nat.{ℕ, ◌+◌, ◌/◌, ◌%◌, ◌≤◌, ◌<◌, ◌^◌}
 use native.Mathlib.Omega.{arith}
 use mathlib.Core.Path.{◌≡◌, refl, sym, ap, ◌∙◌}
 use mathlib.Core.List.{List, [], ◌∷◌, ◌++◌, append_assoc}
 use lib.ListN.{length, length-append}
 use Rattle.lines.specs.Written.{written}
 use Rattle.lines.specs.Decimal.{digit_byte, pair, decimal}
-use Rattle.lines.proofs.WrittenLaws.{written_then, length_written}
+use Rattle.lines.proofs.WrittenLaws.{written_then}
 use Rattle.lines.proofs.DecimalLaws.{decimal_of_small, decimal_of_large}
 
 pub one_digit : (n : ℕ) → n < 10 → length (decimal n) ≡ 1

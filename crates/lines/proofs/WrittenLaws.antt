@@ -1,12 +1,12 @@
 -- Laws of writing into a buffer: one byte, one thing after another, and that the length stays. Assumes nothing.
-use Prim.Native.Nat.{ℕ, zero, suc, ◌+◌, ◌-◌, ◌≤◌, ◌<◌}
+use Prim.Native.Nat.{ℕ, ◌+◌, ◌≤◌, ◌<◌}
 use native.Mathlib.Nat.{add_assoc, add-zero}
 use native.Mathlib.Numerals.{add-one}
 use native.Mathlib.Omega.{arith}
-use mathlib.Core.Path.{◌≡◌, refl, sym, ap, ◌∙◌}
+use mathlib.Core.Path.{◌≡◌, sym, ap, ◌∙◌}
 use mathlib.Core.List.{List, [], ◌∷◌, ◌++◌, append_assoc}
 use lib.ListN.{length, take, drop, set, get_or, length-append, length-take, length-drop, take-append-drop}
-use lib.Seq.{length-take-le, take_at, drop_at, drop-drop, set_split, take-suc, take-length}
+use lib.Seq.{length-take-le, take_at, drop_at, drop-drop, set_split, take-suc}
 use Rattle.lines.specs.Written.{written}
 
 module _ (b : List ℕ) (at : ℕ) where

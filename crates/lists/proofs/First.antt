@@ -1,12 +1,12 @@
 -- Laws of "the first in a range that …": what a search may conclude at each step, what its answer means, and that
 -- nothing outside the range matters. Assumes nothing.
 use Prim.Native.Nat.{ℕ, zero, suc, ◌+◌, ◌-◌, ◌≤◌, ◌<◌}
-use native.Mathlib.Nat.{sub-eq-zero_of_le, suc-sub-suc, eq-or-lt_of_le}
+use native.Mathlib.Nat.{sub-eq-zero_of_le, eq-or-lt_of_le}
 use native.Mathlib.Numerals.{add-one}
 use native.Mathlib.Omega.{arith}
-use mathlib.Core.Path.{◌≡◌, refl, sym, ap, ◌∙◌}
+use mathlib.Core.Path.{◌≡◌, refl, ap, ◌∙◌}
 use mathlib.Core.Bool.{Bool, true, false, cond}
-use mathlib.Core.Logic.{◌⊎◌, inl, inr, ⊎_elim}
+use mathlib.Core.Logic.{⊎_elim}
 use mathlib.Core.Option.{Option, none, some, none-ne-some, some-ne-none, some-injective}
 use Rattle.lists.specs.Range.{first_of, first_such, such, or_else}
 

@@ -1,9 +1,8 @@
 -- An array whose slots are raised, from the last one back, to the longest that stands behind them; and a largest of largests. Assumes
 -- nothing.
-use Prim.Native.Nat.{ℕ, zero, suc, ◌+◌, ◌-◌, ◌≤◌, ◌<◌, max}
-use native.Mathlib.Numerals.{add-one}
+use Prim.Native.Nat.{ℕ, ◌+◌, ◌≤◌, ◌<◌, max}
 use native.Mathlib.Omega.{arith}
-use mathlib.Core.Path.{◌≡◌, refl, sym, ap, ap₂, ◌∙◌}
+use mathlib.Core.Path.{◌≡◌, refl, sym, ap, ◌∙◌}
 use mathlib.Core.Bool.{Bool, true, false, cond}
 use mathlib.Core.Logic.{⊎_elim}
 use mathlib.Core.List.{List}
@@ -11,7 +10,7 @@ use lib.Dec.{ltb, leb}
 use lib.ListN.{get_or, set}
 use borrow.Author.Tests.{lt-ltb, le-ltb, le-leb, lt-leb}
 use Rattle.lists.specs.Range.{largest_to, behind, padded}
-use Rattle.lists.proofs.Over.{le_or_lt, largest_to_suc, largest_to_ext, largest_at_most, below_largest}
+use Rattle.lists.proofs.Over.{le_or_lt, largest_at_most, below_largest}
 use Rattle.lists.proofs.UpTo.{get_d_padded, padded_ext}
 use Rattle.lists.proofs.Put.{padded_put}
 

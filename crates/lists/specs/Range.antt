@@ -1,6 +1,6 @@
 -- Ranges: "the first that …", "the sum over …", "the largest over …", "every …", and the list of all, each defined once.
 -- A range is given by how many numbers it has; it starts from 0, or from the number named. Assumes nothing.
-use Rattle.std.specs.Prelude.{ℕ, zero, suc, ◌+◌, ◌-◌, max, Bool, true, false, cond, ◌&&◌, List, [], ◌∷◌, ◌++◌, eqb, ltb, replicate}
+use Rattle.std.specs.Prelude.{ℕ, zero, suc, ◌+◌, ◌-◌, max, Bool, true, cond, ◌&&◌, List, [], ◌∷◌, ◌++◌, eqb, ltb, replicate}
 use Rattle.std.proofs.Math.Option.{Option, none, some}
 
 -- f 0 + f 1 + … + f (n − 1).

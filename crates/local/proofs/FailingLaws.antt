@@ -2,12 +2,10 @@
 use Prim.Native.Nat.{ℕ, ◌+◌, ◌-◌, ◌≤◌, ◌<◌}
 use mathlib.Core.Path.{◌≡◌, refl, sym, ap, ◌∙◌}
 use mathlib.Core.Bool.{Bool, true, false, not}
-use mathlib.Core.Option.{Option, none, some}
 use native.Mathlib.Nat.{sub-zero}
 use Rattle.lists.specs.Range.{first_such}
 use Rattle.lists.proofs.First.{first_such_here, first_such_next, first_such_over}
 use mathlib.Core.List.{List}
-use Rattle.table.specs.Parts.{task_count}
 use Rattle.table.specs.Grid.{count_in, subsystem_in}
 use Rattle.table.proofs.GridLaws.{count_of_block}
 use Rattle.local.specs.Passing.{task_passes, task_fails, figure, first_failing}

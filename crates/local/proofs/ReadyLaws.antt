@@ -1,5 +1,5 @@
 -- A sound subsystem with its giving end is ready for the functions of this crate: what a caller has to show. Assumes nothing.
-use Prim.Native.Nat.{ℕ, ◌+◌, ◌-◌, ◌≤◌}
+use Prim.Native.Nat.{ℕ, ◌-◌, ◌≤◌}
 use mathlib.Core.Path.{◌≡◌, refl}
 use native.Mathlib.Omega.{arith}
 use mathlib.Core.List.{List}

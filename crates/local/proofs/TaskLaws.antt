@@ -1,11 +1,10 @@
 -- A task of a sound subsystem: its numbers are within their limits, the tasks above it are loads, and what is computed from
 -- its block and from what was taken out is whether it passes. Assumes nothing.
-use Prim.Native.Nat.{ℕ, ◌+◌, ◌*◌, ◌≤◌, ◌<◌}
+use Prim.Native.Nat.{ℕ, ◌+◌, ◌≤◌, ◌<◌}
 use mathlib.Core.Path.{◌≡◌, refl, sym, ap, ap₂, ◌∙◌}
 use mathlib.Core.List.{List}
 use native.Mathlib.Omega.{arith}
 use lib.ListN.{get_or, length}
-use Rattle.lists.specs.Range.{sum_to, padded}
 use Rattle.lists.proofs.Over.{sum_to_ext}
 use Rattle.lists.proofs.UpTo.{length_padded, get_d_padded}
 use Rattle.least.specs.Demand.{load_in, demand, total}

@@ -12,7 +12,7 @@ use Rattle.lists.proofs.Put.{all_padding}
 use Rattle.lists.proofs.Raised.{largest_where, largest_swap}
 use Rattle.table.specs.Limits.{most}
 use Rattle.outer.specs.Interfaces.{InterfacesM, held_at, interfaces_in}
-use Rattle.outer.specs.Parts.{count, holding_of, holding}
+use Rattle.outer.specs.Parts.{holding_of, holding}
 use Rattle.outer.specs.Blocking.{outer_ceiling, reaching, blocking_by, blocking}
 use Rattle.outer.specs.Blocked.{ceiling_in, column_of, wait_in, blocked_in}
 use Rattle.outer.proofs.Slots.{count_of, holding_of_slot}

@@ -1,5 +1,5 @@
 -- Laws of the row: from its parts, with an active period and without. Assumes nothing.
-use Prim.Native.Nat.{ℕ, ◌+◌, ◌-◌, ◌≤◌, ◌<◌}
+use Prim.Native.Nat.{ℕ, ◌-◌, ◌≤◌, ◌<◌}
 use native.Mathlib.Omega.{arith}
 use mathlib.Core.Path.{◌≡◌, ap, ◌∙◌}
 use mathlib.Core.Option.{none, some}
@@ -13,7 +13,6 @@ use Rattle.row.specs.declared.Outcome.TheVariants.{None}
 use Rattle.job.specs.declared.Worst.{Worst}
 use Rattle.job.specs.View.{View, overrun, cost}
 use Rattle.job.specs.Ends.{active_period, jobs}
-use Rattle.job.specs.Response.{response}
 use Rattle.row.specs.Row.{judged, row_with, row_without, row_for}
 use Rattle.job.specs.Sound.{SoundView}
 use Rattle.job.specs.Computed.{worst_of}

@@ -18,7 +18,7 @@ use Rattle.least.proofs.LeastLaws.{least_none}
 use Rattle.table.specs.Limits.{horizon}
 use Rattle.row.specs.declared.Outcome.TheVariants.{Fits, Late, None}
 use Rattle.job.specs.View.{View, resources, held, overrun}
-use Rattle.job.specs.Ends.{active_period, jobs, job_end}
+use Rattle.job.specs.Ends.{active_period, job_end}
 use Rattle.job.specs.Response.{first_at, response_with, job_response, job_resource, response, worst_job}
 use Rattle.row.specs.Row.{judged, row_with, row_without, row_for}
 use Rattle.job.specs.Sound.{SoundView, Counted}

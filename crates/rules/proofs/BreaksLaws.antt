@@ -1,23 +1,21 @@
 -- Laws of what breaks a rule: how a test in the code settles the definition. Assumes nothing.
-use Prim.Native.Nat.{ℕ, zero, suc, ◌+◌, ◌≤◌, ◌<◌, max}
+use Prim.Native.Nat.{ℕ, ◌+◌, ◌≤◌, ◌<◌, max}
 use native.Mathlib.Nat.{le_trans}
 use native.Mathlib.Omega.{arith}
 use mathlib.Core.Logic.{◌⊎◌, inl, inr}
 use mathlib.Core.Path.{◌≡◌, refl, sym, ap, ◌∙◌}
-use mathlib.Core.Bool.{Bool, true, false, not, ◌||◌, ◌&&◌}
+use mathlib.Core.Bool.{Bool, true, false, not, ◌||◌}
 use mathlib.Core.List.{List}
 use borrow.Author.Tests.{lt-ltb, le-ltb, le-leb, lt-leb}
 use lib.Dec.{ltb, leb}
 use Rattle.lists.specs.Range.{all_to, largest_to}
 use Rattle.lists.proofs.Over.{le_or_lt, all_to_ext, all_to_is, all_to_fails, below_largest, largest_reached, largest_to_suc}
 use Rattle.table.specs.Limits.{largest}
-use Rattle.table.specs.Meaning.{TaskM, SubsystemM}
 use Rattle.table.specs.Grid.{period_in, budget_in, separation_in, work_in, deadline_in, access_in, task_in, subsystem_in}
 use Rattle.table.proofs.GridLaws.{access_of_line}
 use Rattle.holding.specs.Holding.{holding}
-use Rattle.rules.specs.declared.Rule.{Rule}
-use Rattle.rules.specs.declared.Rule.TheVariants.{Counts, Range, Order, Access, Overrun}
-use Rattle.rules.specs.Rules.{access_within, some_access_above, count_out, time_out, subsystem_breaks, task_breaks}
+use Rattle.rules.specs.declared.Rule.TheVariants.{Range, Order, Access, Overrun}
+use Rattle.rules.specs.Rules.{access_within, some_access_above, time_out, subsystem_breaks, task_breaks}
 
 -- Out of 1 .. most: below it, or else by the second test.
 pub out_below : (x most : ℕ) → x < 1 → true ≡ (ltb x 1 || ltb most x)

@@ -1,7 +1,6 @@
 -- Laws of the judgement in one pass: to look at one more place is to take the earlier of two judgements. Assumes nothing.
-use Prim.Native.Nat.{ℕ, zero, suc, ◌+◌, ◌≤◌, ◌<◌}
+use Prim.Native.Nat.{ℕ, ◌+◌, ◌≤◌, ◌<◌}
 use native.Mathlib.Numerals.{add-one}
-use native.Mathlib.Omega.{arith}
 use mathlib.Core.Path.{◌≡◌, refl, sym, ap, ◌∙◌}
 use mathlib.Core.Bool.{Bool, true, false, cond, true≢false}
 use mathlib.Core.Option.{Option, none, some, map}
@@ -10,8 +9,7 @@ use lib.Dec.{eqb}
 use Rattle.lists.specs.Range.{or_else, such, first_of, first_such}
 use Rattle.lists.proofs.First.{first_of_more}
 use mathlib.Core.List.{List}
-use Rattle.table.specs.Meaning.{SubsystemM, System}
-use Rattle.table.specs.Parts.{task_count, task_of, subsystem_count}
+use Rattle.table.specs.Meaning.{System}
 use Rattle.table.specs.Grid.{count_in, task_in, subsystem_in, block_in, system_in}
 use Rattle.table.proofs.GridLaws.{count_of_block, task_of_block, count_of_grid}
 use Rattle.rules.specs.declared.Rule.{Rule}

@@ -1,15 +1,13 @@
 -- The judgement is exactly the first break: a refusal by rule k at a place is given where that place breaks rule k, no
 -- earlier place does, and no earlier rule is broken anywhere; a table is admitted where nothing is broken. Assumes nothing.
-use Prim.Native.Nat.{ℕ, zero, suc, ◌+◌, ◌-◌, ◌≤◌, ◌<◌}
-use native.Mathlib.Nat.{eq-or-lt_of_le, suc_inj}
-use native.Mathlib.Numerals.{add-one}
+use Prim.Native.Nat.{ℕ, suc, ◌+◌, ◌≤◌, ◌<◌}
+use native.Mathlib.Nat.{eq-or-lt_of_le}
 use native.Mathlib.Omega.{arith}
 use mathlib.Core.Path.{◌≡◌, refl, sym, ap, ◌∙◌}
 use mathlib.Core.Bool.{Bool, true, false, cond, true≢false}
 use mathlib.Core.Logic.{◌⊎◌, inl, inr, ⊎_elim, ◌↔◌}
 use mathlib.Core.Option.{Option, none, some, map, none-ne-some, some-injective}
 use lib.Dec.{eqb}
-use Rattle.lists.specs.Range.{first_of, first_such}
 use Rattle.lists.proofs.First.{IsFirst, IsFirstSuch, first_of_means, first_such_means, first_such_none}
 use Rattle.lists.proofs.Over.{le_or_lt}
 use Rattle.table.specs.Meaning.{System}

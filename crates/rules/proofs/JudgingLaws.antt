@@ -4,22 +4,21 @@ use Prim.Native.Nat.{ℕ, zero, suc, ◌+◌, ◌-◌, ◌≤◌, ◌<◌}
 use native.Mathlib.Nat.{sub-zero}
 use native.Mathlib.Omega.{arith}
 use mathlib.Core.Path.{◌≡◌, refl, sym, ap, ◌∙◌}
-use mathlib.Core.Bool.{Bool, true, false, cond}
-use mathlib.Core.Option.{Option, none, some, map}
+use mathlib.Core.Bool.{Bool, true, false}
+use mathlib.Core.Option.{none, some, map}
 use mathlib.Core.List.{List}
 use lib.ListN.{get_or}
-use Rattle.lists.specs.Range.{first_of, first_such}
+use Rattle.lists.specs.Range.{first_of}
 use Rattle.lists.proofs.First.{first_such_is, first_such_nowhere, first_of_here, first_of_next, first_of_over}
 use Rattle.table.specs.declared.Table.{Table}
 use Rattle.table.specs.Meaning.{TaskM, SubsystemM, System, subsystem_m, past_subsystems, meaning}
-use Rattle.table.specs.Parts.{task_count, task_of, subsystem_count, subsystem_of}
+use Rattle.table.specs.Parts.{task_count, task_of, subsystem_count}
 use Rattle.table.specs.Grid.{subsystem_in, block_in, system_in}
 use Rattle.table.proofs.Parts.{count_of_tasks, subsystem_of_slot}
-use Rattle.table.proofs.GridLaws.{subsystem_of_grid, resources_of_grid}
+use Rattle.table.proofs.GridLaws.{subsystem_of_grid}
 use Rattle.rules.specs.declared.Rule.{Rule}
 use Rattle.rules.specs.declared.Rule.TheVariants.{Counts, Overrun}
 use Rattle.rules.specs.declared.Place.{Place}
-use Rattle.rules.specs.declared.Judged.{Judged}
 use Rattle.rules.specs.declared.Judged.TheVariants.{Admitted, Refused}
 use Rattle.rules.specs.Rules.{count_out, subsystem_breaks, task_breaks, place_breaks, offender_in, offender_at, offender, place, refused_at, judged_by}
 

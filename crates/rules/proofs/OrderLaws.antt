@@ -1,26 +1,25 @@
 -- Laws of the rules' order: a refusal stands, and where there is none the next rule judges; and what rule 1 gives the
 -- rules after it. Assumes nothing.
-use Prim.Native.Nat.{ℕ, zero, suc, ◌+◌, ◌≤◌, ◌<◌}
+use Prim.Native.Nat.{ℕ, suc, ◌+◌, ◌≤◌, ◌<◌}
 use native.Mathlib.Omega.{arith}
 use mathlib.Core.Path.{◌≡◌, refl, sym, ap, ◌∙◌}
 use mathlib.Core.Bool.{Bool, true, false, cond, ◌||◌, true≢false}
 use mathlib.Core.Option.{Option, none, some, map, some-ne-none}
 use borrow.Author.Tests.{lt-ltb, le-ltb, ltb-false, eq-eqb, ne_eqb}
-use lib.Dec.{ltb, eqb}
+use lib.Dec.{ltb}
 use lib.ListN.{get_or}
-use Rattle.lists.specs.Range.{first_of, first_such}
+use Rattle.lists.specs.Range.{first_of}
 use Rattle.lists.proofs.First.{first_of_none, first_of_nowhere, first_such_none}
-use Rattle.table.specs.declared.Subsystem.{Subsystem}
 use Rattle.table.specs.declared.Table.{Table}
 use Rattle.table.specs.Limits.{most}
-use Rattle.table.specs.Meaning.{SubsystemM, System, subsystem_m, past_subsystems, meaning}
+use Rattle.table.specs.Meaning.{System, past_subsystems, meaning}
 use Rattle.table.specs.Parts.{task_count, subsystem_count, subsystem_of}
 use mathlib.Core.List.{List}
 use Rattle.table.specs.Grid.{count_in, block_in, system_in, HasRoom}
 use Rattle.table.proofs.Parts.{count_of_tasks, count_of_subsystems, subsystem_of_slot}
 use Rattle.table.proofs.GridLaws.{count_of_block, count_of_grid, subsystem_of_grid}
 use Rattle.rules.specs.declared.Rule.{Rule}
-use Rattle.rules.specs.declared.Rule.TheVariants.{Counts, Range, Order, Access, Overrun}
+use Rattle.rules.specs.declared.Rule.TheVariants.{Counts}
 use Rattle.rules.specs.declared.Place.{Place}
 use Rattle.rules.specs.declared.Judged.{Judged}
 use Rattle.rules.specs.declared.Judged.TheVariants.{Admitted, Refused}

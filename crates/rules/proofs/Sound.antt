@@ -1,16 +1,16 @@
 -- What an admitted table is sure of: every number in range and in order, and Q + X ≤ P; that X stays within eight
 -- million, so that no sum wraps before rule 5 is judged; and that nothing hangs on unused slots. Assumes nothing.
-use Prim.Native.Nat.{ℕ, zero, suc, ◌+◌, ◌-◌, ◌*◌, ◌≤◌, ◌<◌}
+use Prim.Native.Nat.{ℕ, suc, ◌+◌, ◌-◌, ◌*◌, ◌≤◌, ◌<◌}
 use native.Mathlib.Nat.{le_trans, mul-le-mul_right}
 use native.Mathlib.Omega.{arith}
-use mathlib.Core.Path.{◌≡◌, refl, sym, ap, ◌∙◌}
+use mathlib.Core.Path.{◌≡◌, refl, ap}
 use mathlib.Core.Bool.{Bool, true, false, cond, not, ◌||◌, true≢false}
 use mathlib.Core.Option.{Option, none, some, get_or}
 use borrow.Author.Tests.{ltb-false, leb-true}
-use lib.Dec.{ltb, leb}
-use Rattle.lists.specs.Range.{all_to, sum_to, largest_to, first_such}
+use lib.Dec.{ltb}
+use Rattle.lists.specs.Range.{all_to, first_such}
 use Rattle.lists.proofs.First.{first_such_means}
-use Rattle.lists.proofs.Over.{all_to_means, sum_to_at_most, sum_to_longer, largest_at_most, below_largest}
+use Rattle.lists.proofs.Over.{all_to_means, sum_to_at_most, largest_at_most}
 use Rattle.table.specs.Limits.{most, largest}
 use Rattle.table.specs.declared.Table.{Table}
 use Rattle.table.specs.Meaning.{TaskM, SubsystemM, System, meaning, MeanTheSame}
@@ -18,11 +18,10 @@ use Rattle.table.specs.Parts.{subsystem_count, subsystem_of, task_count, task_of
 use Rattle.holding.specs.Holding.{uses, inner_ceiling, work_above, task_holding, resource_holding, holding}
 use Rattle.rules.specs.declared.Rule.{Rule}
 use Rattle.rules.specs.declared.Rule.TheVariants.{Counts, Range, Order, Access, Overrun}
-use Rattle.rules.specs.declared.Judged.{Judged}
-use Rattle.rules.specs.declared.Judged.TheVariants.{Admitted, Refused}
+use Rattle.rules.specs.declared.Judged.TheVariants.{Admitted}
 use Rattle.rules.specs.Rules.{count_out, time_out, access_within, some_access_above, table_breaks, subsystem_breaks, task_breaks, place_breaks, judge_of}
 use Rattle.rules.specs.Admitted.{SoundTask, SoundSubsystem, SoundSystem}
-use Rattle.rules.specs.Exactly.{Breaks, whole, part}
+use Rattle.rules.specs.Exactly.{whole, part}
 use Rattle.rules.proofs.OrderLaws.{neither, in_range}
 use Rattle.rules.proofs.Exactly.{admitted_is_unbroken}
 

@@ -1,5 +1,5 @@
 -- What holds in an admitted table, in the words of the rules: the record that the later steps rest on. Assumes nothing.
-use Rattle.std.specs.Prelude.{ℕ, ◌+◌, ◌-◌, ◌≤◌, ◌<◌}
+use Rattle.std.specs.Prelude.{ℕ, ◌+◌, ◌≤◌, ◌<◌}
 use Rattle.table.specs.Limits.{most, largest}
 use Rattle.table.specs.Meaning.{TaskM, SubsystemM, System}
 use Rattle.table.specs.Parts.{subsystem_count, subsystem_of, task_count, task_of, access_of}

@@ -4,7 +4,7 @@ use Rattle.std.specs.Prelude.{ℕ, Bool, true, false, cond, ltb, eqb}
 use Rattle.std.proofs.Math.Option.{Option, none, some, map}
 use Rattle.table.specs.Meaning.{TaskM, SubsystemM}
 use Rattle.rules.specs.declared.Rule.{Rule}
-use Rattle.rules.specs.declared.Rule.TheVariants.{Counts, Range, Order, Access, Overrun}
+use Rattle.rules.specs.declared.Rule.TheVariants.{Range, Order, Access}
 use Rattle.rules.specs.declared.Place.{Place}
 use Rattle.rules.specs.declared.Judged.{Judged}
 use Rattle.rules.specs.declared.Judged.TheVariants.{Admitted, Refused}

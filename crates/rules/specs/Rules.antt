@@ -1,6 +1,6 @@
 -- Rules 1 to 5 over what a table means, and the first refusal in their order. A place is what document 01 prints:
 -- subsystems and tasks from 1, task 0 for the subsystem itself, and 0 0 for the table as a whole. Assumes nothing.
-use Rattle.std.specs.Prelude.{ℕ, zero, suc, ◌+◌, Bool, true, false, cond, ◌||◌, not, ◌&&◌, List, ltb, leb, eqb, length}
+use Rattle.std.specs.Prelude.{ℕ, zero, suc, ◌+◌, Bool, false, cond, ◌||◌, not, ltb, leb, eqb}
 use Rattle.std.proofs.Math.Option.{Option, none, some, map}
 use Rattle.lists.specs.Range.{all_to, first_of, first_such}
 use Rattle.table.specs.Limits.{most, largest}

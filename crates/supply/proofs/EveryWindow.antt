@@ -2,7 +2,7 @@
 use Prim.Native.Nat.{ℕ, zero, suc, ◌+◌, ◌-◌, ◌*◌, ◌/◌, ◌%◌, ◌≤◌, ◌<◌}
 use mathlib.Core.Path.{◌≡◌, refl, ap, ap₂}
 use mathlib.Core.Logic.{⊎_elim}
-use native.Mathlib.Nat.{div-add-mod', mod-lt, zero-mul, suc-mul, add-mul, lt_of_mul-lt-mul_right, le_trans}
+use native.Mathlib.Nat.{div-add-mod', mod-lt, suc-mul, add-mul, lt_of_mul-lt-mul_right}
 use native.Mathlib.Omega.{arith}
 use Rattle.lists.proofs.Over.{le_or_lt}
 use Rattle.supply.specs.Supply.{supply}

@@ -1,6 +1,6 @@
 -- The moment at which the supply reaches n ticks is the first: before it the supply is below n, from it on it is not.
 -- Assumes nothing.
-use Prim.Native.Nat.{ℕ, suc, ◌+◌, ◌-◌, ◌*◌, ◌/◌, ◌%◌, ◌^◌, ◌≤◌, ◌<◌}
+use Prim.Native.Nat.{ℕ, ◌+◌, ◌-◌, ◌*◌, ◌/◌, ◌%◌, ◌^◌, ◌≤◌, ◌<◌}
 use mathlib.Core.Path.{◌≡◌, ap, ap₂}
 use mathlib.Core.Logic.{◌↔◌, ⊎_elim}
 use native.Mathlib.Nat.{div-add-mod', mod-lt, div-le_self, mul-le-mul_left}

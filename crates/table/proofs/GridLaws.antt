@@ -7,16 +7,15 @@ use mathlib.Core.Path.{◌≡◌, refl, sym, ap, subst, ◌∙◌}
 use mathlib.Core.List.{List, [], ◌∷◌}
 use lib.ListN.{length, get_or, set, replicate, length-set, get_or-replicate}
 use lib.Seq.{get_or-set_same}
-use Rattle.lists.specs.Range.{up_to}
 use Rattle.lists.proofs.Filled.{Filled, filled_none, filled_at, filled_more, kept_before, all_keep}
 use Rattle.lists.proofs.UpTo.{length_up_to, get_d_up_to, up_to_ext}
 use Rattle.table.specs.declared.Task.{Task}
 use Rattle.table.specs.declared.Subsystem.{Subsystem}
 use Rattle.table.specs.declared.Table.{Table}
 use Rattle.table.specs.Limits.{most}
-use Rattle.table.specs.Meaning.{TaskM, SubsystemM, System, past_tasks, past_subsystems, access_at, task_at, task_m, subsystem_at, subsystem_m, meaning}
+use Rattle.table.specs.Meaning.{TaskM, past_tasks, past_subsystems, access_at, task_at, task_m, subsystem_at, subsystem_m, meaning}
 use Rattle.table.specs.Parts.{no_task, no_subsystem, subsystem_count, subsystem_of, task_count, task_of, access_of, work_of}
-use Rattle.table.specs.Grid.{number_in, period_in, budget_in, count_in, separation_in, work_in, deadline_in, access_in, task_in, subsystem_in, block_in, subsystem_at_block, system_in, IsLine, HasLines, HasBlocks, HasRoom, LineOf, BlockOf, GridOf}
+use Rattle.table.specs.Grid.{period_in, budget_in, count_in, separation_in, work_in, deadline_in, access_in, task_in, subsystem_in, block_in, subsystem_at_block, system_in, IsLine, HasLines, HasBlocks, LineOf, BlockOf, GridOf}
 
 module _ (m : ℕ) (block : List (List ℕ)) where
   pub count_of_block : task_count (subsystem_in m block) ≡ count_in block

@@ -1,12 +1,12 @@
 -- The parts of a table's meaning are the table's own slots, as far as the counts go. Assumes nothing.
 use Prim.Native.Nat.{ℕ, ◌<◌}
-use mathlib.Core.Path.{◌≡◌, refl, ap, ◌∙◌}
+use mathlib.Core.Path.{◌≡◌, ap, ◌∙◌}
 use lib.ListN.{get_or}
 use Rattle.lists.proofs.UpTo.{length_up_to, get_d_up_to}
 use Rattle.table.specs.declared.Task.{Task}
 use Rattle.table.specs.declared.Subsystem.{Subsystem}
 use Rattle.table.specs.declared.Table.{Table}
-use Rattle.table.specs.Meaning.{TaskM, SubsystemM, System, past_tasks, past_subsystems, access_at, task_at, task_m, subsystem_at, subsystem_m, meaning}
+use Rattle.table.specs.Meaning.{TaskM, past_tasks, past_subsystems, access_at, task_at, task_m, subsystem_at, subsystem_m, meaning}
 use Rattle.table.specs.Parts.{no_task, no_subsystem, subsystem_count, subsystem_of, task_count, task_of, access_of, work_of}
 
 pub access_of_slot : (m : ℕ) (t : Task) (l : ℕ) → l < m → access_of (task_m m t) l ≡ get_or t.access l 0

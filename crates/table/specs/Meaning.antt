@@ -1,7 +1,7 @@
 -- What a table means: what is left of it when unused slots are dropped. Every figure, verdict and byte is defined over
 -- the meaning, so none of them can depend on an unused slot. Indices count from 0 here; document 01 counts from 1.
 -- Assumes nothing.
-use Rattle.std.specs.Prelude.{ℕ, ◌≡◌, List, [], length, get_or}
+use Rattle.std.specs.Prelude.{ℕ, ◌≡◌, List, [], get_or}
 use Rattle.lists.specs.Range.{up_to}
 use Rattle.table.specs.declared.Task.{Task}
 use Rattle.table.specs.declared.Subsystem.{Subsystem}

@@ -1,6 +1,6 @@
 -- The parts of a meaning by index, total: past the end everything is 0. Indices count from 0; document 01 counts from 1.
 -- Assumes nothing.
-use Rattle.std.specs.Prelude.{ℕ, List, [], length, get_or}
+use Rattle.std.specs.Prelude.{ℕ, [], length, get_or}
 use Rattle.table.specs.Meaning.{TaskM, SubsystemM, System}
 
 -- What stands past the end.

@@ -1,5 +1,5 @@
 -- `ends::jobs_of` meets its contract: what the search finds is the active period, or says that there is none. Assumes nothing.
-use Prim.Native.Nat.{◌+◌, ◌-◌, ◌≤◌, ◌<◌, ◌^◌}
+use Prim.Native.Nat.{◌+◌, ◌≤◌, ◌<◌, ◌^◌}
 use mathlib.Core.Path.{◌≡◌, ap, ◌∙◌}
 use lib.ListN.{length, take}
 use Rattle.least.specs.Up.{up}

@@ -1,4 +1,4 @@
-use Prim.Native.Nat.{◌+◌, ◌-◌, max}
+use Prim.Native.Nat.{◌+◌, max}
 use native.Mathlib.Omega.{arith}
 use mathlib.Core.Path.{◌≡◌, refl, ◌∙◌}
 use Rattle.lists.proofs.Turn.{turn_within, turn_less}

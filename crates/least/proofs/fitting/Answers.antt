@@ -1,4 +1,3 @@
-use Prim.Native.Nat.{◌-◌}
 use mathlib.Core.Path.{◌≡◌, sym}
 use Rattle.least.proofs.ShareLaws.{shares_none, shares_turn}
 use borrow.Author.Rules.{rules}

@@ -1,4 +1,4 @@
-use Prim.Native.Nat.{ℕ, ◌-◌}
+use Prim.Native.Nat.{ℕ}
 use mathlib.Core.Path.{◌≡◌, sym, ap, ◌∙◌}
 use Rattle.least.specs.Share.{shares}
 use Rattle.least.proofs.ShareLaws.{shares_none, shares_turn}

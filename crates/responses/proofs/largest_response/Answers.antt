@@ -1,4 +1,4 @@
-use Prim.Native.Nat.{◌+◌, ◌-◌}
+use Prim.Native.Nat.{◌+◌}
 use Rattle.least.proofs.Demand.{loads_fewer}
 use Rattle.job.specs.Computed.{seen_by}
 use Rattle.job.proofs.ActiveLaws.{active_within, budget_at_most}

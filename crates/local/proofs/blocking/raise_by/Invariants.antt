@@ -1,6 +1,6 @@
 -- `local::blocking::raise_by` meets its contract. The loop's invariant: the tasks from j on are raised, and the longest access is that
 -- behind j. Assumes nothing.
-use Prim.Native.Nat.{ℕ, ◌-◌, ◌≤◌, ◌<◌}
+use Prim.Native.Nat.{ℕ, ◌≤◌, ◌<◌}
 use mathlib.Core.Path.{◌≡◌}
 use mathlib.Core.List.{List}
 use Rattle.lists.specs.Range.{behind, padded}

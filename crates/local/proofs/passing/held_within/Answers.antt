@@ -1,4 +1,3 @@
-use Prim.Native.Nat.{◌-◌}
 use mathlib.Core.Path.{sym}
 use Rattle.least.proofs.Demand.{total_mono}
 use Rattle.local.proofs.PassingLaws.{stands_first, stands_beyond, search_found, search_next, total_positive}

@@ -1,6 +1,6 @@
 -- `outer::blocking::raise_by` meets its contract. The loop's invariant: the slots from t on are raised, and the longest is that
 -- behind t. Assumes nothing.
-use Prim.Native.Nat.{◌-◌, ◌≤◌, ◌<◌}
+use Prim.Native.Nat.{◌≤◌, ◌<◌}
 use mathlib.Core.Path.{◌≡◌}
 use Rattle.lists.specs.Range.{behind, padded}
 use Rattle.lists.proofs.Raised.{raised_from}

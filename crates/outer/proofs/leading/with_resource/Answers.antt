@@ -1,4 +1,4 @@
-use Prim.Native.Nat.{◌<◌, ◌-◌}
+use Prim.Native.Nat.{◌<◌}
 use native.Mathlib.Omega.{arith}
 use Rattle.lists.proofs.Turn.{turn_within, turn_less}
 use Rattle.table.specs.Limits.{most}

@@ -1,4 +1,3 @@
-use Prim.Native.Nat.{◌-◌}
 use native.Mathlib.Omega.{arith}
 use Rattle.reader.proofs.ReadSubsystems.{subsystems_begin, subsystems_stop, subsystems_go_on, left_over_stops, subsystems_end}
 use Rattle.reader.proofs.read.read_subsystems.Goals as goal

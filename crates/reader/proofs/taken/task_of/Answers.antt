@@ -1,6 +1,5 @@
 use borrow.Author.Rules.{rules}
 use Rattle.table.proofs.GridLaws.{access_of_line}
-use Prim.Native.Nat.{◌-◌}
 use native.Mathlib.Omega.{arith}
 use mathlib.Core.Path.{sym, ◌∙◌}
 use Rattle.table.specs.Grid.{task_in}

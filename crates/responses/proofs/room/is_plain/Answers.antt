@@ -1,4 +1,4 @@
-use Prim.Native.Nat.{◌-◌, ◌≤◌, ◌<◌}
+use Prim.Native.Nat.{◌≤◌, ◌<◌}
 use mathlib.Core.Path.{◌≡◌, sym, subst}
 use mathlib.Core.Logic.{⊎_elim}
 use lib.Dec.{T}

@@ -2,7 +2,6 @@ use borrow.Author.Rules.{rules}
 use native.Mathlib.Omega.{arith}
 use mathlib.Core.Path.{sym, ap, ◌∙◌}
 use Rattle.lists.proofs.Over.{largest_to_zero}
-use Prim.Native.Nat.{◌-◌}
 use Rattle.lists.specs.Range.{largest_to}
 use Rattle.table.specs.Grid.{access_in}
 use Rattle.rules.proofs.BreaksLaws.{access_turn}

@@ -1,5 +1,4 @@
 use borrow.Author.Rules.{rules}
-use Prim.Native.Nat.{◌-◌}
 use native.Mathlib.Omega.{arith}
 use Rattle.table.proofs.GridLaws.{no_block_yet, one_block_more, grid_is, grid_means}
 use Rattle.table.proofs.grid.lay_out.Goals as goal

@@ -1,7 +1,6 @@
 use borrow.Author.Rules.{rules}
 use native.Mathlib.Omega.{arith}
 use mathlib.Core.Path.{refl}
-use Prim.Native.Nat.{◌-◌}
 use Rattle.table.proofs.GridLaws.{own_line, one_line_more, block_is}
 use Rattle.table.proofs.grid.lay_out_subsystem.Goals as goal
 
