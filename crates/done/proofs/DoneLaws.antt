@@ -7,25 +7,19 @@ use native.Mathlib.Omega.{arith}
 use mathlib.Core.Path.{◌≡◌, sym, ap, subst, ◌∙◌}
 use mathlib.Core.Logic.{⊎_elim}
 use mathlib.Core.List.{List}
-use mathlib.Core.Option.{some}
-use lib.ListN.{length, get_or}
 use borrow.Author.Tests.{eq-eqb, ne_eqb}
 use Rattle.lists.specs.Range.{largest_to}
-use Rattle.lists.proofs.Over.{le_or_lt, same_or_not, below_largest, largest_at_most}
-use Rattle.least.specs.Demand.{demand, demand_between, total}
+use Rattle.lists.proofs.Over.{same_or_not, below_largest, largest_at_most}
 use Rattle.least.specs.Search.{IsLeast}
 use Rattle.least.proofs.Demand.{demand_split}
 use Rattle.least.proofs.LeastLaws.{least_found}
-use Rattle.search.specs.After.{afterwards, Frees, After, Found}
-use Rattle.search.proofs.ClimbLaws.{starts_nowhere}
 use Rattle.table.specs.Limits.{horizon}
 use Rattle.outer.specs.Blocking.{number_or}
 use Rattle.job.specs.View.{View, resources, held, ceiling, overrun, cost}
 use Rattle.job.specs.Ends.{ahead, budget_end, shut_out, job_end}
-use Rattle.job.specs.Response.{first_at, response_with, job_response, job_resource}
-use Rattle.job.specs.Sound.{SoundView, FirstEnd}
+use Rattle.job.specs.Response.{first_at, response_with}
+use Rattle.job.specs.Sound.{FirstEnd}
 use Rattle.job.proofs.FirstAtLaws.{by_first}
-use Rattle.job.proofs.WaitLaws.{frees_fewer, left_more, waits_more}
 use Rattle.job.proofs.ResponseLaws.{counted_response, uncounted_response, response_without, resource_without, response_with_lem, resource_with}
 use Rattle.done.specs.Done.{done, done_total, FirstDone, EndsDone, Alone}
 

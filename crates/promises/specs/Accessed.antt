@@ -1,7 +1,7 @@
 -- The outer ceiling speaks of accesses, and the global steps see holding times: a subsystem holds a resource exactly when one
 -- of its tasks accesses it. Assumes nothing.
-use Rattle.std.specs.Prelude.{ℕ, ◌+◌, ◌<◌, ◌≤◌, ◌≡◌, refl, Bool, true, false, cond, ◌↔◌, ◌⊎◌, ltb}
-use Rattle.std.proofs.Common.{arith, sym, ◌∙◌, inl, inr, ltb-true, lt-ltb}
+use Rattle.std.specs.Prelude.{ℕ, ◌+◌, ◌<◌, ◌≡◌, refl, Bool, true, false, cond, ◌↔◌, ◌⊎◌, ltb}
+use Rattle.std.proofs.Common.{arith, inl, inr, ltb-true, lt-ltb}
 use Rattle.lists.specs.Range.{largest_to}
 use Rattle.lists.proofs.Over.{below_largest, largest_reached}
 use Rattle.table.specs.Meaning.{SubsystemM}

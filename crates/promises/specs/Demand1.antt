@@ -1,6 +1,6 @@
 -- Demand 1, over tables: exact refusals, and that a refusal carries no figures. Places count as the rules do: subsystems and
 -- tasks from 1, task 0 for the subsystem itself, 0 0 for the table as a whole. Assumes nothing.
-use Rattle.std.specs.Prelude.{ℕ, ◌+◌, ◌≤◌, ◌<◌, ◌≡◌, refl, false, ◌↔◌, replicate}
+use Rattle.std.specs.Prelude.{ℕ, ◌≡◌, false, ◌↔◌, replicate}
 use Rattle.std.proofs.Common.{ap}
 use Rattle.table.specs.Limits.{most}
 use Rattle.table.specs.declared.Table.{Table}
@@ -12,7 +12,6 @@ use Rattle.rules.specs.declared.Judged.TheVariants.{Admitted, Refused}
 use Rattle.rules.specs.Rules.{judge_of, place}
 use Rattle.rules.specs.Exactly.{Breaks, FirstBreak}
 use Rattle.rules.proofs.Exactly.{refused_exactly, admitted_exactly}
-use Rattle.report.specs.declared.Report.{Report}
 use Rattle.rows.specs.Rows.{no_row}
 use Rattle.report.specs.Report.{report_for, report_of}
 use Rattle.report.proofs.ReportLaws.{same_report}

@@ -1,6 +1,6 @@
 -- Demand 2, over tables: the figures. Subsystems, tasks and resources count from 0 here, as do jobs. Assumes nothing.
-use Rattle.std.specs.Prelude.{ℕ, suc, ◌+◌, ◌-◌, ◌*◌, ◌≤◌, ◌<◌, ◌≡◌, Bool, true, false, cond, ◌↔◌, leb, ltb}
-use Rattle.std.proofs.Common.{add-suc, arith, sym, ◌∙◌, lt-ltb}
+use Rattle.std.specs.Prelude.{ℕ, ◌+◌, ◌-◌, ◌*◌, ◌≤◌, ◌<◌, ◌≡◌, Bool, true, false, cond, ◌↔◌, leb, ltb}
+use Rattle.std.proofs.Common.{arith, sym, ◌∙◌, lt-ltb}
 use Rattle.std.proofs.Math.Path.{refl, ap, ap₂}
 use Rattle.std.proofs.Math.Option.{Option, none, some}
 use Rattle.std.proofs.Math.ListN.{get_or}
@@ -9,20 +9,17 @@ use Rattle.lists.proofs.Over.{below_largest}
 use Rattle.lists.proofs.UpTo.{get_d_padded}
 use Rattle.least.specs.Up.{up}
 use Rattle.least.specs.Demand.{load_in, demand, total}
-use Rattle.least.specs.Least.{least}
 use Rattle.least.proofs.LeastLaws.{LeastUpTo, least_means, least_none}
 use Rattle.table.specs.Limits.{most, horizon}
 use Rattle.table.specs.declared.Table.{Table}
-use Rattle.table.specs.Meaning.{System, meaning}
+use Rattle.table.specs.Meaning.{meaning}
 use Rattle.table.specs.Parts.{subsystem_count}
 use Rattle.holding.specs.Holding.{resource_holding}
 use Rattle.rules.specs.declared.Judged.{Judged}
 use Rattle.rules.specs.declared.Judged.TheVariants.{Admitted}
-use Rattle.rules.specs.Rules.{judge_of}
 use Rattle.outer.specs.Interfaces.{InterfacesM}
 use Rattle.outer.specs.Parts.{periods, costs}
 use Rattle.outer.specs.Blocking.{blocking as step6}
-use Rattle.row.specs.declared.Outcome.{Outcome}
 use Rattle.row.specs.declared.Outcome.TheVariants.{Fits, Late, None}
 use Rattle.row.specs.declared.Row.{Row}
 use Rattle.job.specs.View.{View, view_of, resources, held as heldIn, overrun as rowOverrun}
@@ -34,7 +31,7 @@ use Rattle.rows.specs.Interfaces.{interfaces_from}
 use Rattle.rows.proofs.SoundLaws.{period_shown, overrun_shown, holding_shown}
 use Rattle.report.specs.declared.Report.{Report}
 use Rattle.rows.specs.Rows.{row_at, failing_at, no_row}
-use Rattle.report.specs.Report.{accepted, report_for, report_of}
+use Rattle.report.specs.Report.{report_for, report_of}
 use Rattle.promises.specs.Tables.{IsAdmitted, HasSubsystem, subsystem, overrun}
 
 -- What the other subsystems see of a table's, and the row of subsystem s in its report.

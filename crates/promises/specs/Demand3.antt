@@ -8,7 +8,6 @@ use Rattle.local.specs.Passing.{task_passes, need, asked_by, separation_of, dead
 use Rattle.local.specs.SomeWindow.{SomeWindowHolds}
 use Rattle.local.proofs.Demand3.{passing_in_table}
 use Rattle.table.specs.Parts.{work_of}
-use Rattle.table.specs.Meaning.{meaning}
 use Rattle.promises.specs.Tables.{IsAdmitted, HasSubsystem, HasTask, subsystem, overrun, task, asked_in}
 
 -- x ticks are long enough for task i of subsystem s: under every way of handing out ticks in which each period of P gives

@@ -1,17 +1,16 @@
 -- The starred figures of the rules, computed from the definitions and shown together as one list. Assumes nothing.
-use Rattle.std.specs.Prelude.{ℕ, ◌+◌, ◌-◌, ◌*◌, ◌≡◌, refl, List, [], ◌∷◌}
-use Rattle.table.specs.Meaning.{TaskM, SubsystemM, System}
+use Rattle.std.specs.Prelude.{ℕ, ◌≡◌, refl, List, [], ◌∷◌}
+use Rattle.table.specs.Meaning.{SubsystemM, System}
 use Rattle.supply.specs.Supply.{supply}
 use Rattle.holding.specs.Holding.{holding, resource_holding, task_holding, uses, inner_ceiling, work_above}
 use Rattle.table.specs.Parts.{subsystem_count, subsystem_of, task_count, task_of, access_of, work_of}
-use Rattle.lists.specs.Range.{sum_to, largest_to, all_to, first_of, first_such, first_largest, up_to, padded}
+use Rattle.lists.specs.Range.{sum_to, largest_to, first_of, first_such, first_largest, up_to, padded}
 use Rattle.least.specs.Up.{up}
 use Rattle.least.specs.Demand.{load_in, demand, demand_between, total}
 use Rattle.least.specs.Least.{solves, least}
-use Rattle.outer.specs.Interfaces.{InterfacesM}
 use Rattle.outer.specs.Parts.{count, interface_of, period_of, budget_of, holding_of, holding as overrunOf, cost_of, periods, costs}
 use Rattle.outer.specs.Blocking.{accesses, outer_ceiling, reaching, blocking_by, blocking}
-use Rattle.job.specs.View.{View, view_of, held, ceiling, overrun, cost}
+use Rattle.job.specs.View.{view_of, held, ceiling, overrun, cost}
 use Rattle.job.specs.Ends.{active_period, jobs, ahead, budget_end, shut_out, job_end}
 use Rattle.job.specs.Response.{first_at, response_with, job_response, job_resource, response, worst_job}
 use Rattle.row.specs.Row.{row_of, row_for, row_with, row_without, judged, reported}

@@ -1,17 +1,16 @@
 -- Demands 1 and 2, over files: exact refusals, no figures in a refusal, lent buffers, and both round trips. A file is a list
 -- of bytes; a write lends a buffer, a list of bytes too. Assumes nothing.
-use Rattle.std.specs.Prelude.{ℕ, ◌≤◌, ◌<◌, ◌≡◌, refl, Bool, true, false, cond, ◌↔◌, List, ltb, length, take, drop}
+use Rattle.std.specs.Prelude.{ℕ, ◌<◌, ◌≡◌, refl, Bool, true, false, cond, ◌↔◌, List, ltb, length, take}
 use Rattle.std.proofs.Common.{arith, sym, ap, ◌∙◌, ltb-true, lt-ltb}
 use Rattle.std.proofs.Math.Option.{Option, none, some}
 use Rattle.table.specs.declared.Table.{Table}
 use Rattle.table.specs.Zeros.{zero_table}
-use Rattle.table.specs.Meaning.{System, meaning, MeanTheSame}
+use Rattle.table.specs.Meaning.{meaning, MeanTheSame}
 use Rattle.rules.specs.declared.Place.{Place}
 use Rattle.rules.specs.declared.Rule.{Rule}
 use Rattle.rules.specs.declared.Judged.{Judged}
 use Rattle.rules.specs.declared.Judged.TheVariants.{Admitted, Refused}
 use Rattle.stored.specs.declared.Fault.{Fault}
-use Rattle.stored.specs.declared.ReadAnswer.{ReadAnswer}
 use Rattle.stored.specs.declared.ReadAnswer.TheVariants.{Whole, Refused as RefusedFile}
 use Rattle.stored.specs.declared.WriteAnswer.{WriteAnswer}
 use Rattle.stored.specs.declared.WriteAnswer.TheVariants.{Written, Uncounted, NoRoom}

@@ -1,6 +1,6 @@
 -- One result only, where a contract is not an equation by its form. Assumes nothing.
-use Rattle.std.specs.Prelude.{ℕ, ◌+◌, ◌≤◌, ◌<◌, ◌≡◌, ◌⊎◌, List}
-use Rattle.std.proofs.Common.{eq-or-lt_of_le, lt_irrefl, arith, sym, ap, ◌∙◌, ⊎_elim}
+use Rattle.std.specs.Prelude.{ℕ, ◌+◌, ◌≤◌, ◌<◌, ◌≡◌, List}
+use Rattle.std.proofs.Common.{eq-or-lt_of_le, arith, ⊎_elim}
 use Rattle.lists.proofs.Over.{le_or_lt}
 use Rattle.least.specs.Share.{Fitting}
 use Rattle.least.specs.Search.{IsLeast}

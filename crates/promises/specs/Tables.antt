@@ -1,6 +1,5 @@
 -- The words in which the demands speak of tables. Subsystems, tasks and resources count from 0 here. Assumes nothing.
-use Rattle.std.specs.Prelude.{ℕ, ◌+◌, ◌-◌, ◌*◌, ◌<◌, ◌≡◌, get_or}
-use Rattle.lists.specs.Range.{sum_to}
+use Rattle.std.specs.Prelude.{ℕ, ◌*◌, ◌<◌, ◌≡◌}
 use Rattle.least.specs.Up.{up}
 use Rattle.table.specs.declared.Table.{Table}
 use Rattle.table.specs.Meaning.{SubsystemM, TaskM, meaning}

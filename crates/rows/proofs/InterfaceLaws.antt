@@ -4,20 +4,20 @@ use native.Mathlib.Omega.{arith}
 use mathlib.Core.Path.{◌≡◌, refl, sym, ap, ◌∙◌}
 use mathlib.Core.List.{List, []}
 use lib.ListN.{length, get_or, set, replicate, length-set}
-use Rattle.lists.specs.Range.{up_to, padded}
+use Rattle.lists.specs.Range.{padded}
 use Rattle.lists.proofs.Over.{below_largest}
 use Rattle.lists.proofs.UpTo.{get_d_padded}
 use Rattle.lists.proofs.Filled.{Filled, filled_none, filled_at, filled_more, kept_before}
 use Rattle.table.specs.Limits.{most, largest}
 use Rattle.table.specs.Meaning.{SubsystemM, System}
-use Rattle.table.specs.Parts.{subsystem_count, subsystem_of}
+use Rattle.table.specs.Parts.{subsystem_count}
 use Rattle.table.specs.Grid.{period_in, budget_in, subsystem_in, block_in, system_in}
 use Rattle.table.proofs.GridLaws.{count_of_grid, resources_of_grid, subsystem_of_grid}
 use Rattle.holding.specs.Holding.{resource_holding, holding}
 use Rattle.holding.specs.Held.{holdings_at, HeldIn}
 use Rattle.holding.proofs.HoldingLaws.{held_of_block}
-use Rattle.rules.specs.Admitted.{SoundSubsystem, SoundSystem}
-use Rattle.outer.specs.Interfaces.{InterfaceM, InterfacesM, period_at, budget_at, held_at, interface_at as line_at, interfaces_in}
+use Rattle.rules.specs.Admitted.{SoundSystem}
+use Rattle.outer.specs.Interfaces.{period_at, budget_at, held_at, interface_at as line_at, interfaces_in}
 use Rattle.outer.specs.Sound.{Sound}
 use Rattle.outer.proofs.Slots.{interface_is, interfaces_are}
 use Rattle.rows.specs.Interfaces.{interface_from, interface_at, interfaces_from}

@@ -2,7 +2,7 @@
 -- Assumes nothing.
 use Prim.Native.Nat.{ℕ, ◌+◌, ◌-◌, ◌≤◌, ◌<◌}
 use native.Mathlib.Omega.{arith}
-use mathlib.Core.Path.{◌≡◌, refl, sym, ap, ap₂, ◌∙◌}
+use mathlib.Core.Path.{◌≡◌, sym, ap, ap₂, ◌∙◌}
 use mathlib.Core.List.{List}
 use lib.ListN.{get_or, set}
 use Rattle.lists.specs.Range.{padded}
@@ -13,7 +13,7 @@ use Rattle.table.specs.Parts.{subsystem_count, subsystem_of}
 use Rattle.table.specs.Grid.{period_in, budget_in, subsystem_in, block_in, system_in}
 use Rattle.table.proofs.GridLaws.{count_of_grid, subsystem_of_grid}
 use Rattle.holding.specs.Holding.{holding}
-use Rattle.rules.specs.Admitted.{SoundSubsystem, SoundSystem}
+use Rattle.rules.specs.Admitted.{SoundSystem}
 use Rattle.local.specs.Passing.{first_failing, giving_end}
 use Rattle.local.specs.Ready.{Ready}
 use Rattle.outer.specs.declared.ceilings.Common.{Common}
@@ -23,7 +23,6 @@ use Rattle.outer.specs.Common.{common_of}
 use Rattle.row.specs.declared.Row.{Row}
 use Rattle.row.specs.Row.{row_of}
 use Rattle.rows.specs.Interfaces.{interfaces_from}
-use Rattle.rows.specs.Slots.{SoundSlot}
 use Rattle.rows.specs.Rows.{failing_at, row_at, no_row}
 use Rattle.rows.proofs.SoundLaws.{count_of_interfaces, budget_shown, overrun_shown}
 use Rattle.rows.proofs.InterfaceLaws.{sound_slot}

@@ -1,16 +1,14 @@
 -- The interfaces of an admitted table are sound, and show what the subsystems have. Assumes nothing.
-use Prim.Native.Nat.{ℕ, ◌+◌, ◌-◌, ◌≤◌, ◌<◌}
-use native.Mathlib.Omega.{arith}
-use mathlib.Core.Path.{◌≡◌, refl, sym, ap, ap₂, ◌∙◌}
-use lib.ListN.{length, get_or}
-use Rattle.lists.specs.Range.{largest_to, up_to}
+use Prim.Native.Nat.{ℕ, ◌<◌}
+use mathlib.Core.Path.{◌≡◌, ap, ◌∙◌}
+use lib.ListN.{get_or}
 use Rattle.lists.proofs.Over.{largest_to_ext}
 use Rattle.lists.proofs.UpTo.{get_d_up_to, length_up_to}
-use Rattle.table.specs.Meaning.{SubsystemM, System}
+use Rattle.table.specs.Meaning.{System}
 use Rattle.table.specs.Parts.{subsystem_count, subsystem_of}
 use Rattle.holding.specs.Holding.{resource_holding, holding}
-use Rattle.rules.specs.Admitted.{SoundSubsystem, SoundSystem}
-use Rattle.outer.specs.Interfaces.{InterfaceM, InterfacesM}
+use Rattle.rules.specs.Admitted.{SoundSystem}
+use Rattle.outer.specs.Interfaces.{InterfaceM}
 use Rattle.outer.specs.Parts.{no_interface, count, interface_of, period_of, budget_of, holding_of, holding as overrunOf}
 use Rattle.outer.specs.Sound.{Sound}
 use Rattle.rows.specs.Interfaces.{interface_from, interface_at, interfaces_from}

@@ -1,7 +1,7 @@
 -- What the text of every file is like: lines of words, no longer than the room that is asked for, and settled by the first
 -- 4,096 bytes. (That the numbers are decimal without leading zeros is in crate `lines`: decimal-value, decimal-lead.)
 -- Assumes nothing.
-use Prim.Native.Nat.{ℕ, zero, suc, ◌+◌, ◌≤◌}
+use Prim.Native.Nat.{ℕ, zero, suc, ◌≤◌}
 use native.Mathlib.Omega.{arith}
 use mathlib.Core.Path.{◌≡◌, refl, sym, ap}
 use mathlib.Core.List.{List, [], ◌∷◌, ◌++◌, append_assoc, append-nil}

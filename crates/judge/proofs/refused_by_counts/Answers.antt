@@ -1,5 +1,4 @@
 use borrow.Author.Rules.{rules}
-use Prim.Native.Nat.{◌-◌}
 use native.Mathlib.Omega.{arith}
 use Rattle.table.proofs.Parts.{count_of_subsystems}
 use Rattle.rules.specs.declared.Rule.TheVariants.{Counts}

@@ -1,5 +1,4 @@
 use borrow.Author.Rules.{rules}
-use Prim.Native.Nat.{◌-◌}
 use native.Mathlib.Omega.{arith}
 use Rattle.rules.proofs.EarlierLaws.{judged_none, judged_one, judged_every}
 use Rattle.judge.proofs.refused_in_order.Goals as goal

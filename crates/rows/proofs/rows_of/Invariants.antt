@@ -5,7 +5,6 @@ use Rattle.lists.specs.Range.{padded}
 use Rattle.table.specs.Limits.{most}
 use Rattle.table.specs.Grid.{system_in}
 use Rattle.rows.specs.Rows.{row_at, no_row}
-use Rattle.job.proofs.LentLaws as lent
 use Rattle.rows.proofs.rows_of.Given as goal
 
 abbrev pub invariant-loop-s : goal.invariant-loop-s

@@ -1,4 +1,3 @@
-use Prim.Native.Nat.{◌-◌}
 use borrow.Author.Rules.{rules}
 use Rattle.lists.proofs.Turn.{turn_within, turn_less}
 use Rattle.text.proofs.RowsLaws.{rows_begin, room_for_row, rows_go_on, rows_end, rows_length}

@@ -3,8 +3,8 @@ use Rattle.lists.proofs.Turn.{turn_within, turn_less}
 use Rattle.table.specs.declared.Subsystem.{Subsystem}
 use Rattle.table.specs.Limits.{most}
 use Rattle.stored.proofs.FileLaws.{flat_map_none, length_one_subsystem_more, length_file_parts}
-use Prim.Native.Nat.{ℕ, ◌≤◌, ◌-◌, ◌+◌, ◌*◌, ◌<◌}
-use lib.ListN.{length, get_or, length-map, get_or-eq_default}
+use Prim.Native.Nat.{ℕ, ◌≤◌, ◌+◌, ◌*◌, ◌<◌}
+use lib.ListN.{length, get_or, get_or-eq_default}
 use mathlib.Core.Path.{◌≡◌, sym, ap, ◌∙◌}
 use mathlib.Core.List.{flat_map}
 use Rattle.table.specs.Meaning.{subsystem_at, past_subsystems}

@@ -14,8 +14,8 @@ returns-in-Refused c =
 pub returns-then-buf-len : goal.returns-then-buf-len
 returns-then-buf-len c =
     let e =
-        no_room (meaning c.args.t) c.args.buf.now _ c.judge_counts-counts.ensures c.in_default.is
-        (rw (← c.file_length-len.ensures) c.if-buf-len.true) in
+    no_room (meaning c.args.t) c.args.buf.now _ c.judge_counts-counts.ensures c.in_default.is
+    (rw (← c.file_length-len.ensures) c.if-buf-len.true) in
     record { value = e.0; buf_after = e.1 }
 
 pub put_file-put-requires : goal.put_file-put-requires
@@ -25,7 +25,7 @@ put_file-put-requires c =
 pub returns : goal.returns
 returns c =
     let e =
-        file_put (meaning c.args.t) c.args.buf.now _ c.judge_counts-counts.ensures c.in_default.is c.put_file-put.new.free c.put_file-put.result
-        (rw (← c.file_length-len.ensures) c.if-buf-len.false)
-        c.put_file-put.ensures in
+    file_put (meaning c.args.t) c.args.buf.now _ c.judge_counts-counts.ensures c.in_default.is c.put_file-put.new.free c.put_file-put.result
+    (rw (← c.file_length-len.ensures) c.if-buf-len.false)
+    c.put_file-put.ensures in
     record { value = e.0; buf_after = e.1 }

@@ -1,4 +1,3 @@
-use Prim.Native.Nat.{◌-◌}
 use lib.ListN.{length}
 use Rattle.lists.proofs.Turn.{turn_within, turn_less}
 use Rattle.stored.specs.Numbers.{number_size}

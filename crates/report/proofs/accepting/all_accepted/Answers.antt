@@ -1,4 +1,3 @@
-use Prim.Native.Nat.{◌-◌}
 use Rattle.lists.proofs.Over.{all_to_zero}
 use Rattle.report.proofs.AcceptedLaws.{row_rejected, row_accepted_lem, all_rows_accepted}
 use borrow.Author.Tests.{not-true, not-false}

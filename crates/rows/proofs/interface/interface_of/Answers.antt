@@ -1,5 +1,4 @@
 use borrow.Author.Rules.{rules}
-use Prim.Native.Nat.{◌-◌}
 use native.Mathlib.Omega.{arith}
 use Rattle.table.specs.Grid.{subsystem_in}
 use Rattle.rows.proofs.InterfaceLaws.{holding_small, held_here, line_begins, line_more, line_shows}

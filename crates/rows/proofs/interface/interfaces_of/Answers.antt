@@ -1,5 +1,4 @@
 use borrow.Author.Rules.{rules}
-use Prim.Native.Nat.{◌-◌}
 use native.Mathlib.Omega.{arith}
 use Rattle.rows.proofs.InterfaceLaws.{lines_begin, lines_more, lines_are_all, sound_slot, held_slot, few_subsystems}
 use Rattle.rows.proofs.interface.interfaces_of.Goals as goal

@@ -1,6 +1,6 @@
 -- `wording::line::put_row_end` meets its contract. Assumes nothing.
 use native.Mathlib.Omega.{arith}
-use Prim.Native.Nat.{ℕ, ◌+◌}
+use Prim.Native.Nat.{ℕ}
 use mathlib.Core.Path.{ap}
 use mathlib.Core.List.{List, ◌++◌}
 use Rattle.lines.specs.Words.{word}

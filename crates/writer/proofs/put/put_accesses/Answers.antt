@@ -5,7 +5,6 @@ use Rattle.stored.specs.Numbers.{number_size}
 use Rattle.stored.proofs.FileLaws.{length_number_bytes}
 use Rattle.stored.specs.File.{number_bytes}
 use Rattle.table.specs.Meaning.{access_at}
-use Prim.Native.Nat.{◌-◌}
 use native.Mathlib.Omega.{arith}
 use Rattle.writer.proofs.put.put_accesses.Goals as goal
 

@@ -1,5 +1,4 @@
 use borrow.Author.Rules.{rules}
-use Prim.Native.Nat.{◌-◌}
 use Rattle.lists.proofs.Turn.{turn_within, turn_less}
 use Rattle.table.specs.Meaning.{task_at}
 use Rattle.stored.specs.File.{task_field}
