@@ -2,9 +2,9 @@
 -- what holds of each element of an array that a program holds. Assumes nothing.
 use Prim.Native.Nat.{ℕ, zero, suc, ◌^◌, ◌≤◌, ◌<◌}
 use native.Mathlib.Omega.{arith}
-use mathlib.Core.Path.{◌≡◌}
+use mathlib.Core.Path.{◌≡◌, sym, subst}
 use mathlib.Core.Logic.{⊎_elim}
-use mathlib.Core.List.{List, [], ◌∷◌}
+use mathlib.Core.List.{List, [], ◌∷◌, map, map-id}
 use mir.Val.{Val}
 use base.Fml.{Fml}
 use denote.Shadow.{shadow}
@@ -100,8 +100,13 @@ held_of_slots t h =
 ------------------------------------------------------------------------
 -- The elements of an array, by what the array's row says
 
-pub each_element : {Y : Type 0} (own : Y → List Val → Fml) (P : Y → Type 0) → ((y : Y) (vs : List Val) → shadow (own y vs) → P y) → (d : Y) → P d → (ys : List Y) (us : List Val) (i : ℕ) → shadow (each Y own ys us) → P (get_or ys i d)
-each_element own P tells d pd [] us i s = pd
-each_element own P tells d pd (y ∷ ys) [] i s = absurd s
-each_element own P tells d pd (y ∷ ys) (u ∷ us) zero s = tells y (u ∷ []) s.0
-each_element own P tells d pd (y ∷ ys) (u ∷ us) (suc i) s = each_element own P tells d pd ys us i s.1
+pub each_element : {X Y : Type 0} (own : X → List Val → Fml) (to : Y → X) (P : Y → Type 0) → ((y : Y) (vs : List Val) → shadow (own (to y) vs) → P y) → (d : Y) → P d → (ys : List Y) (us : List Val) (i : ℕ) → shadow (each X own (map to ys) us) → P (get_or ys i d)
+each_element own to P tells d pd [] us i s = pd
+each_element own to P tells d pd (y ∷ ys) [] i s = absurd s
+each_element own to P tells d pd (y ∷ ys) (u ∷ us) zero s = tells y (u ∷ []) s.0
+each_element own to P tells d pd (y ∷ ys) (u ∷ us) (suc i) s = each_element own to P tells d pd ys us i s.1
+
+-- The same where the row speaks of the elements themselves.
+pub each_itself : {Y : Type 0} (own : Y → List Val → Fml) (P : Y → Type 0) → ((y : Y) (vs : List Val) → shadow (own y vs) → P y) → (d : Y) → P d → (ys : List Y) (us : List Val) (i : ℕ) → shadow (each Y own ys us) → P (get_or ys i d)
+each_itself {Y} own P tells d pd ys us i s =
+    each_element own (λ (y : Y). y) P tells d pd ys us i (subst (λ (zs : List Y). shadow (each Y own zs us)) (sym (map-id ys)) s)
