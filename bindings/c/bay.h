@@ -1,5 +1,5 @@
 /* The bay timing calculator for callers in C: four functions on byte slices, in the static library libbay.a (built by
- * `rt staticlib bay`; it needs nothing but memcpy and memset of the C library).
+ * bindings/c/build; it needs nothing but memcpy and memset of the C library).
  *
  * A slice is a pointer and a length. What holds for every function here:
  *  - FILE is any bytes of any length; the function reads them and changes nothing there. Only the first 4,096 bytes of a

@@ -66,8 +66,8 @@ class Counted:
         return took
 
 
-def programs(work, lib, bay_many):
+def programs(work, bay_many):
     """The command lines of both programs, and both running: ours reads a file's length and the file, the peer all that there is."""
-    ours, peer = [lib + "/ld-linux-x86-64.so.2", "--library-path", lib, bay_many], [work + "/peer", "fast"]
+    ours, peer = [bay_many], [work + "/peer", "fast"]
     plugin = work + "/count.so,reads=on"
     return (ours, peer), (Counted(plugin, ours, 2), Counted(plugin, peer, 1))

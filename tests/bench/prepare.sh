@@ -1,22 +1,20 @@
 # To be sourced: what counting needs, built into the folder $work. `ours FRAMES` and `peer FRAMES` print the executed instructions of
 # our bay_many and of the peer's fast engine on a file of frames, both compiled for x86-64 at full optimisation, under Debian's
-# qemu-user with the plugin count.c; what they wrote is left in $work/out. Needs the packages qemu-user and gcc (on another processor
-# gcc-x86-64-linux-gnu too), and builds bay_many by scripts/start.
+# qemu-user with the plugin count.c; what they wrote is left in $work/out. Needs the packages qemu-user and gcc, and builds bay_many by
+# scripts/start; $bay_many is where it lies.
 command -v qemu-x86_64 >/dev/null || { echo "bench: install qemu-user first" >&2; exit 2; }
 : | "$root/scripts/start" bay_many >/dev/null
 "${HOSTCC:-gcc}" -O2 -fPIC -shared -o "$work/count.so" "$root/tests/bench/count.c"
-case $(uname -m) in x86_64) cross=gcc ;; *) cross=x86_64-linux-gnu-gcc ;; esac
-CC=${CC:-$cross} "$root/tests/peer/build" bench "$work/peer"
+CC=${CC:-gcc} "$root/tests/peer/build" bench "$work/peer"
 : > "$work/empty.bin"
 
-kit=${RATTLE_HOME:-$(dirname "$(dirname "$(readlink -f "$(command -v rt)")")")}
-lib=$kit/on/$(uname -m)/toolchain/lib
+bay_many=$root/crates/bay_many/out/bay_many
 counted() { # frames, program...
     local frames=$1
     shift
     qemu-x86_64 -plugin "$work/count.so" "$@" < "$frames" 2>&1 >"$work/out" | sed -n 's/^instructions //p'
 }
-ours() { counted "$1" "$lib/ld-linux-x86-64.so.2" --library-path "$lib" "$root/target/bin/bay_many"; }
+ours() { counted "$1" "$bay_many"; }
 peer() { counted "$1" "$work/peer" fast; }
 ours_start=$(ours "$work/empty.bin")
 peer_start=$(peer "$work/empty.bin")

@@ -4,8 +4,8 @@ import sys
 
 from counting import programs
 
-work, lib, bay_many = sys.argv[1:4]
-_, (ours, peer) = programs(work, lib, bay_many)
+work, bay_many = sys.argv[1:3]
+_, (ours, peer) = programs(work, bay_many)
 SIZES = [5_000, 9_000, 15_000, 30_000, float("inf")]
 
 
@@ -25,7 +25,7 @@ def counted(path):
 print("| Profile | Files | Ours | Peer | Ours / peer | The highest of a file |")
 print("|---|---|---|---|---|---|")
 highest = {size: (0, 0) for size in SIZES}
-for path in sys.argv[4:]:
+for path in sys.argv[3:]:
     counts = counted(path)
     all_ours, all_peer = sum(a for a, _ in counts), sum(b for _, b in counts)
     worst = max(a / b for a, b in counts)

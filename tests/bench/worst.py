@@ -8,9 +8,9 @@ import time
 
 from counting import frame, programs
 
-seconds, seed, out, work, lib, bay_many = sys.argv[1:7]
+seconds, seed, out, work, bay_many = sys.argv[1:6]
 chance = random.Random(int(seed))
-(OURS, PEER), (ours, peer) = programs(work, lib, bay_many)
+(OURS, PEER), (ours, peer) = programs(work, bay_many)
 
 
 def ratio(table, least, most):

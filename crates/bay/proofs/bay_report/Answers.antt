@@ -10,9 +10,11 @@ use Rattle.bay.proofs.bay_report.Goals as goal
 pub returns-then-buf-lt-REPORT_SIZE : goal.returns-then-buf-lt-REPORT_SIZE
 unfolding figures_after
 returns-then-buf-lt-REPORT_SIZE c =
-    too_short report_size (flat_map number_bytes (figures_in c.args.file.now)) c.args.buf.now c.if-buf-lt-REPORT_SIZE.true
+    let short = too_short report_size (flat_map number_bytes (figures_in c.args.file.now)) c.args.buf.now c.if-buf-lt-REPORT_SIZE.true in
+    record { value = short.0; buf_after = short.1 }
 
 pub returns : goal.returns
 unfolding figures_after
 returns c =
-    long_enough report_size (flat_map number_bytes (figures_in c.args.file.now)) c.args.buf.now _ _ c.if-buf-lt-REPORT_SIZE.false (length_of_file_figures c.args.file.now) c.put_file.ensures
+    let enough = long_enough report_size (flat_map number_bytes (figures_in c.args.file.now)) c.args.buf.now _ _ c.if-buf-lt-REPORT_SIZE.false (length_of_file_figures c.args.file.now) c.put_file.ensures in
+    record { value = enough.0; buf_after = enough.1 }
