@@ -8,7 +8,7 @@ use std::io;
 use std::io::Write;
 use std::rt::Env;
 
-// The longest path that the system takes, with room for one byte more.
+// Room for any path that the system takes.
 const PATH: usize = 4096;
 
 // What the system says of a name that is longer than it takes: ENAMETOOLONG.
