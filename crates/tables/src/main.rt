@@ -3,10 +3,9 @@
 #![tactic(auto)]
 
 use std::env::FillError;
-use std::fs;
-use std::io;
 use std::io::Write;
 use std::rt::Env;
+use std::{fs, io};
 
 // Room for any path that the system takes.
 const PATH: usize = 4096;
@@ -49,7 +48,11 @@ fn judge_argument(rt: HostRuntime, i: usize) -> io::Result<bool> {
     let mut path = [0u8; PATH];
     match rt.arg(i, &mut path) {
         Ok(length) => judge_named(rt, &path[..length])?,
-        Err(FillError::TooLong) => complain(rt, b"argument", io::Error::from_raw_os_error(TOO_LONG))?,
+        Err(FillError::TooLong) => complain(
+            rt,
+            b"argument",
+            io::Error::from_raw_os_error(TOO_LONG),
+        )?,
         Err(FillError::NotPresent) => return Ok(false),
     }
     Ok(true)
