@@ -1,5 +1,5 @@
 // A reader and a writer in pieces: few calls to the system, however short the files are.
-ghost use Rattle.std.specs.Prelude.{◌≡◌, ◌+◌, ◌-◌, ◌≤◌, min, length};
+ghost use Rattle.std.specs.Prelude.{◌≡◌, ◌+◌, ◌≤◌, length, OnOk};
 
 use std::io;
 use std::io::{Read, Write};
@@ -47,29 +47,45 @@ impl<R, W> Streams<R, W> {
         n
     }
 
-    // Keeps as many of the bytes as there is room for.
-    fn keep(&mut self, bytes: &[u8]) -> usize
-        ensures { result ≤ length bytes.now }
+    // Keeps the bytes, for which there is room.
+    fn keep(&mut self, bytes: &[u8])
+        requires { self.old.len + length bytes.now ≤ 16384 }
     {
-        let n = (PIECE - self.len).min(bytes.len());
         let from = self.len;
-        self.kept[from..from + n].copy_from_slice(&bytes[..n]);
-        self.len = from + n;
-        n
+        let to = from + bytes.len();
+        self.kept[from..to].copy_from_slice(bytes);
+        self.len = to;
     }
 }
 
 impl<R, W: Write> Streams<R, W> {
-    // Writes what is kept. None of it is written again where that fails.
-    fn write_kept(&mut self) -> io::Result<()> {
+    // Writes what is kept. None of it is written again where that fails. It stands apart, so that the copies are inlined.
+    #[cold]
+    #[inline(never)]
+    fn write_kept(&mut self) -> io::Result<()>
+        ensures { self.new.len ≡ 0 }
+    {
         let len = self.len;
         self.len = 0;
         self.output.write_all(&self.kept[..len])
+    }
+
+    // Sees to room for so many bytes.
+    fn make_room(&mut self, bytes: usize) -> io::Result<()>
+        requires { bytes ≤ 16384 }
+        ensures { OnOk result (self.new.len + bytes ≤ 16384) }
+    {
+        if PIECE - self.len < bytes {
+            self.write_kept()?;
+        }
+        Ok(())
     }
 }
 
 impl<R: Read, W: Write> Streams<R, W> {
     // Reads the next piece, where all that came has been asked for.
+    #[cold]
+    #[inline(never)]
     fn refill(&mut self) -> io::Result<()> {
         self.write_kept()?;
         self.at = 0;
@@ -94,7 +110,20 @@ impl<R: Read, W: Write> Write for Streams<R, W> {
         if self.len == PIECE {
             self.write_kept()?;
         }
-        Ok(self.keep(buf))
+        let n = (PIECE - self.len).min(buf.len());
+        self.keep(&buf[..n]);
+        Ok(n)
+    }
+
+    // As by `write`, in one step where there is room.
+    fn write_all(&mut self, buf: &[u8]) -> io::Result<()> {
+        if PIECE < buf.len() {
+            self.write_kept()?;
+            return self.output.write_all(buf);
+        }
+        self.make_room(buf.len())?;
+        self.keep(buf);
+        Ok(())
     }
 
     fn flush(&mut self) -> io::Result<()> {
