@@ -25,10 +25,10 @@ def frame(table):
 
 
 class Counted:
-    """A program that goes on from file to file. `reads` is how often it reads for one: the last time it waits for the next."""
+    """A program that goes on from file to file. It reads all that there is of one, and when it reads again it waits for the next."""
 
-    def __init__(self, plugin, program, reads):
-        self.plugin, self.program, self.reads, self.process = plugin, program, reads, None
+    def __init__(self, plugin, program):
+        self.plugin, self.program, self.process = plugin, program, None
         self.start()
 
     def start(self):
@@ -57,8 +57,7 @@ class Counted:
     def count(self, file, patience):
         """The instructions for this file; None where it takes too long, and then the program is started anew."""
         self.process.stdin.write(file)
-        for _ in range(self.reads):
-            number = self.number(patience)
+        number = self.number(patience)
         if number is None:
             self.start()
             return None
@@ -67,7 +66,7 @@ class Counted:
 
 
 def programs(work, bay_many):
-    """The command lines of both programs, and both running: ours reads a file's length and the file, the peer all that there is."""
+    """The command lines of both programs, and both running."""
     ours, peer = [bay_many], [work + "/peer", "fast"]
     plugin = work + "/count.so,reads=on"
-    return (ours, peer), (Counted(plugin, ours, 2), Counted(plugin, peer, 1))
+    return (ours, peer), (Counted(plugin, ours), Counted(plugin, peer))

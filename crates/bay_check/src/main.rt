@@ -2,10 +2,10 @@
 // longer than that is a table, and the answer is the same (crate `stored` proves it).
 #![tactic(auto)]
 
-use libc::STDIN_FILENO;
+use std::io;
 
-fn main() {
+fn main(rt: HostRuntime) -> io::Result<()> {
     let mut file = [0u8; 4096];
-    let n = io::read_full(STDIN_FILENO, &mut file);
-    printing::print_text(&file[..n]);
+    let n = printing::read_up_to(&mut rt.stdin(), &mut file)?;
+    printing::print_text(&mut rt.stdout(), &file[..n])
 }

@@ -4,109 +4,126 @@
 // `broken frame K` is printed and the run ends.
 #![tactic(auto)]
 
-ghost use Rattle.std.specs.Prelude.{◌≡◌, ◌≤◌};
-ghost use Rattle.std.proofs.Math.ListN;
+mod streams;
+
+ghost use Rattle.std.specs.Prelude.{◌≡◌, ◌≤◌, length};
 ghost use Rattle.table.specs.Grid.{HasBlocks};
 
-use libc::{STDIN_FILENO, STDOUT_FILENO};
+use printing::read_up_to;
+use std::io;
+use std::io::{Read, Write};
+use streams::Streams;
 use table::Table;
 use table::grid::{BLOCK, LINE};
 
+// Room for the digits of any number of a file, and the line's end.
+const NUMBER_AND_END: usize = 11;
+
 // A line: words, the number of the file, and the line's end.
-fn say(words: &[u8], k: u32) {
-    io::write_all(STDOUT_FILENO, words);
-    io::print_decimal(STDOUT_FILENO, k as u64);
-    io::write_all(STDOUT_FILENO, b"\n");
+fn say<W: Write>(out: &mut W, words: &[u8], k: u32) -> io::Result<()> {
+    let mut rest = [0u8; NUMBER_AND_END];
+    let digits = lines::put_number(&mut rest, 0, k);
+    let end = lines::put_byte(&mut rest, digits, b'\n');
+    out.write_all(words)?;
+    out.write_all(&rest[..end])
 }
 
 // Passes over so many bytes of the input, by way of the space; false where they do not all come.
-fn pass_over(bytes: u32, space: &mut [u8]) -> bool
-    requires { ListN.length space.old ≡ 2048 }
+fn pass_over<R: Read>(input: &mut R, bytes: u32, space: &mut [u8]) -> io::Result<bool>
+    requires { length space.old ≡ 2048 }
 {
     if bytes == 0 {
-        return true;
+        return Ok(true);
     }
     let mut left = bytes;
     while 2048 < left {
-        if io::read_full(STDIN_FILENO, space) < 2048 {
-            return false;
+        if read_up_to(input, space)? < 2048 {
+            return Ok(false);
         }
         left -= 2048;
     }
     let last = left as usize;
-    last <= io::read_full(STDIN_FILENO, &mut space[..last])
+    let came = read_up_to(input, &mut space[..last])?;
+    Ok(last <= came)
 }
 
 // The frame is broken: says so.
-fn broken(k: u32) -> bool {
-    say(b"broken frame ", k);
-    false
+fn broken<W: Write>(out: &mut W, k: u32) -> io::Result<bool> {
+    say(out, b"broken frame ", k)?;
+    Ok(false)
 }
 
 // How many bytes of a file of so many are judged.
-fn judged_part(length: u32) -> u32
-    ensures { (result ≤ 4096) × (result ≤ length) }
+fn judged_part(size: u32) -> u32
+    ensures { (result ≤ 4096) × (result ≤ size) }
 {
-    if length < 4096 { length } else { 4096 }
+    if size < 4096 { size } else { 4096 }
 }
 
 // Judges file k, of so many bytes, in a space of 4,096; false where they do not all come. The table goes into the grid, and the
 // text is made up in `buf`.
-fn judge_file(
+fn judge_file<R: Read, W: Write>(
+    streams: &mut Streams<R, W>,
     k: u32,
-    length: u32,
+    size: u32,
     space: &mut [u8],
     grid: &mut [[[u32; LINE]; BLOCK]; Table::MOST],
     buf: &mut [u8],
-) -> bool
-    requires space_value { (ListN.length space.old ≡ 4096) × (ListN.length buf.old ≡ 2048) }
+) -> io::Result<bool>
+    requires space_value { (length space.old ≡ 4096) × (length buf.old ≡ 2048) }
     requires has_blocks { HasBlocks grid.old }
     ensures { HasBlocks grid.new }
 {
-    let part = judged_part(length);
+    let part = judged_part(size);
     let wanted = part as usize;
-    if io::read_full(STDIN_FILENO, &mut space[..wanted]) < wanted {
-        return broken(k);
+    let came = read_up_to(streams, &mut space[..wanted])?;
+    if came < wanted {
+        return broken(streams, k);
     }
-    if !pass_over(length - part, buf) {
-        return broken(k);
+    let all_passed = pass_over(streams, size - part, buf)?;
+    if !all_passed {
+        return broken(streams, k);
     }
-    say(b"file ", k);
-    printing::print_text_in(&space[..wanted], grid, buf);
-    true
+    say(streams, b"file ", k)?;
+    printing::print_text_in(streams, &space[..wanted], grid, buf)?;
+    Ok(true)
 }
 
 // Judges the next file, number k; false where there is none, or its frame is broken.
-fn judge_next(
+fn judge_next<R: Read, W: Write>(
+    streams: &mut Streams<R, W>,
     k: u32,
     space: &mut [u8],
     grid: &mut [[[u32; LINE]; BLOCK]; Table::MOST],
     buf: &mut [u8],
-) -> bool
-    requires space_value { (ListN.length space.old ≡ 4096) × (ListN.length buf.old ≡ 2048) }
+) -> io::Result<bool>
+    requires space_value { (length space.old ≡ 4096) × (length buf.old ≡ 2048) }
     requires has_blocks { HasBlocks grid.old }
     ensures { HasBlocks grid.new }
 {
     let mut head = [0u8; 4];
-    let came = io::read_full(STDIN_FILENO, &mut head);
+    let came = read_up_to(streams, &mut head)?;
     if came == 0 {
-        return false;
+        return Ok(false);
     }
     if came < 4 {
-        return broken(k);
+        return broken(streams, k);
     }
-    let length = stored::number::number_at(&head, 0);
-    judge_file(k, length, space, grid, buf)
+    let size = stored::number::number_at(&head, 0);
+    judge_file(streams, k, size, space, grid, buf)
 }
 
 // A proved loop has to end, and nothing says that standard input does: the number of files is bounded, by one that no run
 // uses up. All files share the space, the grid and the buffer, which are cleared once.
-fn main() {
+fn main(rt: HostRuntime) -> io::Result<()> {
+    let mut streams = Streams::new(rt.stdin(), rt.stdout());
     let mut space = [0u8; 4096];
     let mut grid = [[[0u32; LINE]; BLOCK]; Table::MOST];
     let mut buf = [0u8; text::ROOM];
-    let mut k: u32 = 1;
-    while k < u32::MAX && judge_next(k, &mut space, &mut grid, &mut buf) {
-        k += 1;
+    for k in 1..u32::MAX {
+        if !judge_next(&mut streams, k, &mut space, &mut grid, &mut buf)? {
+            break;
+        }
     }
+    streams.flush()
 }

@@ -12,36 +12,30 @@ use asked::{JobEnd, job_end};
 use numbers::wide;
 use report::Report;
 use row::Row;
+use std::io;
 use table::grid::{BLOCK, LINE, lay_out_subsystem};
 use table::{Subsystem, Table};
 
 // A line with the supply of a window of x ticks.
-fn supply(period: u32, budget: u32, end: u32, x: u32)
+fn supply(out: &impl Print, period: u32, budget: u32, end: u32, x: u32) -> io::Result<()>
     requires { (1 ≤ budget) × (budget ≤ end) × (end ≤ period) }
 {
-    print::text(b"supply P ");
-    print::number(wide(period));
-    print::text(b" Q ");
-    print::number(wide(budget));
-    print::text(b" E ");
-    print::number(wide(end));
-    print::text(b" at ");
-    print::number(wide(x));
-    print::figure(b": ", wide(supply::supply_in(period, budget, end, x)));
+    let given = supply::supply_in(period, budget, end, x);
+    println!(out; "supply P {period} Q {budget} E {end} at {x}: {given}")
 }
 
 // The last line of these has P for E, where A's task 1 would see 14.
-fn supplies() {
-    supply(50, 10, 44, 74);
-    supply(50, 10, 44, 75);
-    supply(50, 10, 44, 84);
-    supply(50, 10, 44, 124);
-    supply(50, 10, 44, 133);
-    supply(50, 10, 44, 134);
-    supply(70, 30, 60, 99);
-    supply(70, 30, 60, 100);
-    supply(10, 10, 10, 17);
-    supply(50, 10, 50, 134);
+fn supplies(out: &impl Print) -> io::Result<()> {
+    supply(out, 50, 10, 44, 74)?;
+    supply(out, 50, 10, 44, 75)?;
+    supply(out, 50, 10, 44, 84)?;
+    supply(out, 50, 10, 44, 124)?;
+    supply(out, 50, 10, 44, 133)?;
+    supply(out, 50, 10, 44, 134)?;
+    supply(out, 70, 30, 60, 99)?;
+    supply(out, 70, 30, 60, 100)?;
+    supply(out, 10, 10, 10, 17)?;
+    supply(out, 50, 10, 50, 134)
 }
 
 // Where a job ends, 0 where it does not.
@@ -57,27 +51,37 @@ fn response(t: Table, s: u8, k: u32, l: u8, period: u32) -> u64 {
     numbers::monus(end(t, s, k, l), wide(k) * wide(period))
 }
 
-fn ends_of_job_0(t: Table) {
-    print::figure(b"A subsystem 3 job 0 resource 1 ends at: ", end(t, 3, 0, 1));
-    print::figure(b"A subsystem 3 job 0 resource 2 ends at: ", end(t, 3, 0, 2));
-    print::figure(b"A subsystem 3 job 0 budget ends at: ", end(t, 3, 0, 0));
+fn ends_of_job_0(out: &impl Print, t: Table) -> io::Result<()> {
+    print::figure(
+        out,
+        "A subsystem 3 job 0 resource 1 ends at: ",
+        end(t, 3, 0, 1),
+    )?;
+    print::figure(
+        out,
+        "A subsystem 3 job 0 resource 2 ends at: ",
+        end(t, 3, 0, 2),
+    )?;
+    print::figure(out, "A subsystem 3 job 0 budget ends at: ", end(t, 3, 0, 0))
 }
 
-fn responses_of_job_1(t: Table) {
+fn responses_of_job_1(out: &impl Print, t: Table) -> io::Result<()> {
     print::figure(
-        b"A subsystem 3 job 1 resource 1 responds in: ",
+        out,
+        "A subsystem 3 job 1 resource 1 responds in: ",
         response(t, 3, 1, 1, 70),
-    );
+    )?;
     print::figure(
-        b"A subsystem 3 job 1 resource 2 responds in: ",
+        out,
+        "A subsystem 3 job 1 resource 2 responds in: ",
         response(t, 3, 1, 2, 70),
-    );
+    )
 }
 
-fn jobs_of_a() {
+fn jobs_of_a(out: &impl Print) -> io::Result<()> {
     let t = tables::table_a(134, 4);
-    ends_of_job_0(t);
-    responses_of_job_1(t);
+    ends_of_job_0(out, t)?;
+    responses_of_job_1(out, t)
 }
 
 // The row of subsystem s, from 1.
@@ -88,42 +92,45 @@ fn row(report: Report, s: usize) -> Row
     rows[s - 1]
 }
 
-fn variations_of_a() {
+fn variations_of_a(out: &impl Print) -> io::Result<()> {
     let longer = report::analyse(tables::table_a(134, 5));
-    print::outcome(b"A with c2 of subsystem 3 at 5, row 3: ", row(longer, 3));
+    print::outcome(
+        out,
+        "A with c2 of subsystem 3 at 5, row 3: ",
+        row(longer, 3),
+    )?;
     let sooner = report::analyse(tables::table_a(133, 4));
-    print::text(b"A with D of subsystem 1 at 133: ");
     if sooner.accepted {
-        print::text(b"accepted\n");
+        println!(out; "A with D of subsystem 1 at 133: accepted")?;
     } else {
-        print::text(b"rejected\n");
+        println!(out; "A with D of subsystem 1 at 133: rejected")?;
     }
     let first = row(sooner, 1);
     print::figure(
-        b"A with D of subsystem 1 at 133, row 1: local ",
+        out,
+        "A with D of subsystem 1 at 133, row 1: local ",
         wide(first.failing),
-    );
+    )
 }
 
 // A line with the response of a job of table C's subsystem 2.
-fn response_of_c(t: Table, k: u32) {
-    print::text(b"C subsystem 2 job ");
-    print::number(wide(k));
-    print::figure(b" responds in: ", response(t, 2, k, 1, 70));
+fn response_of_c(out: &impl Print, t: Table, k: u32) -> io::Result<()> {
+    let ticks = response(t, 2, k, 1, 70);
+    println!(out; "C subsystem 2 job {k} responds in: {ticks}")
 }
 
-fn table_c() {
+fn table_c(out: &impl Print) -> io::Result<()> {
     let t = tables::table_c();
     let second = row(report::analyse(t), 2);
-    print::figure(b"C row 2: L ", wide(second.active));
-    print::figure(b"C row 2: jobs ", wide(second.jobs));
-    response_of_c(t, 0);
-    response_of_c(t, 1);
-    response_of_c(t, 2);
-    response_of_c(t, 3);
-    response_of_c(t, 4);
-    print::outcome(b"C row 2: ", second);
-    print::figure(b"C row 2: job ", wide(second.job));
+    print::figure(out, "C row 2: L ", wide(second.active))?;
+    print::figure(out, "C row 2: jobs ", wide(second.jobs))?;
+    response_of_c(out, t, 0)?;
+    response_of_c(out, t, 1)?;
+    response_of_c(out, t, 2)?;
+    response_of_c(out, t, 3)?;
+    response_of_c(out, t, 4)?;
+    print::outcome(out, "C row 2: ", second)?;
+    print::figure(out, "C row 2: job ", wide(second.job))
 }
 
 // rc of resource 1, from 1, in a subsystem with two tasks.
@@ -143,48 +150,54 @@ fn holding_of(sub: Subsystem) -> u64 {
     wide(alone.holding)
 }
 
-fn holdings() {
+fn holdings(out: &impl Print) -> io::Result<()> {
     let second = tables::two_tasks(0, 2);
-    print::figure(b"task 2 with c 2: X ", holding_of(second));
+    print::figure(out, "task 2 with c 2: X ", holding_of(second))?;
     let both = tables::two_tasks(1, 2);
     print::figure(
-        b"task 1 with c 1, task 2 with c 2: rc ",
+        out,
+        "task 1 with c 1, task 2 with c 2: rc ",
         inner_ceiling(both),
-    );
-    print::figure(b"task 1 with c 1, task 2 with c 2: X ", holding_of(both));
+    )?;
+    print::figure(
+        out,
+        "task 1 with c 1, task 2 with c 2: X ",
+        holding_of(both),
+    )
 }
 
-fn judgements() {
+fn judgements(out: &impl Print) -> io::Result<()> {
     let held_4 = report::analyse(tables::held_for(4));
     let admitted = held_4.judged;
-    print::judgement(b"P 10 Q 6 c 4: ", admitted);
+    print::judgement(out, "P 10 Q 6 c 4: ", admitted)?;
     let held_5 = report::analyse(tables::held_for(5));
     let refused = held_5.judged;
-    print::judgement(b"P 10 Q 6 c 5: ", refused);
+    print::judgement(out, "P 10 Q 6 c 5: ", refused)
 }
 
-fn no_active_period() {
+fn no_active_period(out: &impl Print) -> io::Result<()> {
     let full = report::analyse(tables::no_room_below());
-    print::outcome(b"P 10 Q 10 above P 10 Q 1, row 1: ", row(full, 1));
-    print::outcome(b"P 10 Q 10 above P 10 Q 1, row 2: ", row(full, 2));
+    print::outcome(out, "P 10 Q 10 above P 10 Q 1, row 1: ", row(full, 1))?;
+    print::outcome(out, "P 10 Q 10 above P 10 Q 1, row 2: ", row(full, 2))
 }
 
-fn empty_file() {
+fn empty_file(out: &impl Print) -> io::Result<()> {
     let reading = reader::read_table(b"");
     let answer = reading.answer;
     let refusal = stored::file_refusal(answer);
-    print::text(b"empty file: refused ");
-    print::number(refusal.number as u64);
-    print::figure(b" at ", refusal.offset as u64);
+    let number = refusal.number;
+    let offset = refusal.offset;
+    println!(out; "empty file: refused {number} at {offset}")
 }
 
-fn main() {
-    supplies();
-    jobs_of_a();
-    variations_of_a();
-    table_c();
-    holdings();
-    judgements();
-    no_active_period();
-    empty_file();
+fn main(rt: HostRuntime) -> io::Result<()> {
+    let out = &rt;
+    supplies(out)?;
+    jobs_of_a(out)?;
+    variations_of_a(out)?;
+    table_c(out)?;
+    holdings(out)?;
+    judgements(out)?;
+    no_active_period(out)?;
+    empty_file(out)
 }

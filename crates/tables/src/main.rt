@@ -2,39 +2,67 @@
 // stored output comes from the peer's literal engine (tests/peer/make_tables), never from this program.
 #![tactic(auto)]
 
-use libc::STDOUT_FILENO;
+use std::env::FillError;
+use std::io::Write;
+use std::rt::Env;
+use std::{fs, io};
+
+// Room for any path that the system takes.
+const PATH: usize = 4096;
+
+// What the system says of a name that is longer than it takes: ENAMETOOLONG.
+const TOO_LONG: i32 = 36;
+
+// A line on standard error: what failed, and why.
+fn complain(rt: HostRuntime, what: &[u8], error: io::Error) -> io::Result<()> {
+    let mut err = rt.stderr();
+    err.write_all(what)?;
+    writeln!(err, ": {error}")
+}
+
+// The file of a path, whose bytes have to be text.
+fn open(rt: HostRuntime, path: &[u8]) -> io::Result<fs::File> {
+    match std::str::from_utf8(path) {
+        Ok(path) => fs::File::open(&rt, path),
+        Err(_) => Err(io::Error::from(io::ErrorKind::InvalidFilename)),
+    }
+}
 
 // One stored table.
-fn judge_named(path: &[u8]) {
-    io::write_all(STDOUT_FILENO, path);
-    io::write_all(STDOUT_FILENO, b"\n");
-    let fd = os::open_read(path);
-    if fd < 0 {
-        os::fail(path);
-        return;
+fn judge_named(rt: HostRuntime, path: &[u8]) -> io::Result<()> {
+    let mut out = rt.stdout();
+    out.write_all(path)?;
+    out.write_all(b"\n")?;
+    match open(rt, path) {
+        Ok(mut named) => {
+            let mut file = [0u8; 4096];
+            let n = printing::read_up_to(&mut named, &mut file)?;
+            printing::print_text(&mut out, &file[..n])
+        }
+        Err(error) => complain(rt, path, error),
     }
-    let mut file = [0u8; 4096];
-    let n = io::read_full(fd, &mut file);
-    libc::close(fd);
-    printing::print_text(&file[..n]);
 }
 
-// The table that argument i names.
-fn judge_argument(i: usize) {
-    let mut path = io::buffer();
-    let length = os::arg(i, &mut path);
-    if os::errno() != 0 {
-        os::fail(b"argument");
-        return;
+// The table that argument i names; false where there is no such argument.
+fn judge_argument(rt: HostRuntime, i: usize) -> io::Result<bool> {
+    let mut path = [0u8; PATH];
+    match rt.arg(i, &mut path) {
+        Ok(length) => judge_named(rt, &path[..length])?,
+        Err(FillError::TooLong) => complain(
+            rt,
+            b"argument",
+            io::Error::from_raw_os_error(TOO_LONG),
+        )?,
+        Err(FillError::NotPresent) => return Ok(false),
     }
-    judge_named(&path[..length]);
+    Ok(true)
 }
 
-fn main() {
-    let n = os::arg_count();
-    let mut i = 1;
-    while i < n {
-        judge_argument(i);
-        i += 1;
+fn main(rt: HostRuntime) -> io::Result<()> {
+    for i in 1..usize::MAX {
+        if !judge_argument(rt, i)? {
+            break;
+        }
     }
+    Ok(())
 }

@@ -5,7 +5,7 @@ use lib.ListN.{length}
 use Rattle.bay_many.proofs.pass_over.Given as goal
 
 abbrev pub invariant-loop-left : goal.invariant-loop-left
-invariant-loop-left l = (length l.space ≡ 2048) × (l.left ≤ l.bytes)
+invariant-loop-left g l = (length l.space ≡ 2048) × (l.left ≤ l.bytes)
 
 abbrev pub decreases-loop-left : goal.decreases-loop-left
-decreases-loop-left l = l.left
+decreases-loop-left g l = l.left

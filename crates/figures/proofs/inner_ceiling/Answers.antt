@@ -23,4 +23,4 @@ inner_ceiling-ceiling-requires c =
 pub overflow_add-ceiling : goal.overflow_add-ceiling
 overflow_add-ceiling c =
     let counted = c.lay_out_subsystem.ensures.0.count_is ∙ c.requires in
-    omega (arith, c.inner_ceiling-ceiling.ensures, counted, ceiling_is_a_task c.lay_out_subsystem.new.1.0 0 1 (omega arith) (omega (arith, counted)))
+    omega (arith, c.inner_ceiling-ceiling.ensures, counted, ceiling_is_a_task c.lay_out_subsystem.new.block 0 1 (omega arith) (omega (arith, counted)))

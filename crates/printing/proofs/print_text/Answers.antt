@@ -3,5 +3,5 @@ use Rattle.table.proofs.GridLaws.{blank_blocks}
 use Rattle.printing.proofs.print_text.Goals as goal
 
 pub print_text_in-requires : goal.print_text_in-requires
-print_text_in-requires c =
+print_text_in-requires g c =
     blank_blocks

@@ -1,24 +1,44 @@
 -- `printing::print_text_in` meets its contract. Assumes nothing.
-use mathlib.Core.Path.{sym}
+use mathlib.Core.Path.{sym, subst}
+use mathlib.Core.List.{List}
+use Prim.Native.Nat.{ℕ}
 use lib.Seq.{length-take-le}
 use native.Mathlib.Omega.{arith}
-use Rattle.printing.proofs.Within.{printed_within}
+use Rattle.std.specs.Prelude.{OnOk}
+use Rattle.std.specs.Io.KnownBytes.{Appends}
+use Rattle.printing.proofs.Within.{printed_within, short_has_no_text, text_is_answered, answered_is_text}
 use Rattle.printing.proofs.print_text_in.Goals as goal
 
 pub slice_bounds-write_all-end : goal.slice_bounds-write_all-end
-slice_bounds-write_all-end c =
+slice_bounds-write_all-end g c =
     omega (
       arith,
       printed_within _ _ _ _ c.check_text_in-printed.ensures.printed.answered c.in-Text.is,
-      c.check_text_in-printed.auto.buf.1,
+      c.check_text_in-printed.auto.buf,
     )
 
 pub slice_bounds-write_all-end-in-Text : goal.slice_bounds-write_all-end-in-Text
-slice_bounds-write_all-end-in-Text c =
+slice_bounds-write_all-end-in-Text g c =
     sym
     (length-take-le _ _
     (omega (
       arith,
       printed_within _ _ _ _ c.check_text_in-printed.ensures.printed.answered c.in-Text.is,
-      c.check_text_in-printed.auto.buf.1,
+      c.check_text_in-printed.auto.buf,
     )))
+
+pub returns-in-Text-clause-written : goal.returns-in-Text-clause-written
+returns-in-Text-clause-written g c =
+    λ room.
+    subst
+    (λ (bytes : List ℕ). OnOk c.write_all.result (Appends (g.W.Write.contents c.args.out.now) (g.W.Write.contents c.write_all.new.self) bytes))
+    (answered_is_text _ _ _ _ c.check_text_in-printed.ensures.printed room c.in-Text.len c.in-Text.is)
+    c.write_all.ensures.bytes
+
+pub returns-clause-written : goal.returns-clause-written
+returns-clause-written g c =
+    λ room. absurd (c.in_default.not-Text _ (text_is_answered _ _ _ _ c.check_text_in-printed.ensures.printed room))
+
+pub returns-in-Text-clause-unwritten : goal.returns-in-Text-clause-unwritten
+returns-in-Text-clause-unwritten g c =
+    λ short. absurd (short_has_no_text _ _ _ _ _ c.check_text_in-printed.ensures.printed short c.in-Text.is)
