@@ -1,50 +1,49 @@
 -- `ends::job_end` meets its contract: what it lends are the loads, and the search from the budget's end finds the
 -- job's. Assumes nothing.
-use Prim.Native.Nat.{◌≤◌, ◌<◌}
+use Prim.Native.Nat.{◌<◌}
 use native.Mathlib.Omega.{arith}
-use mathlib.Core.Path.{◌≡◌, ◌∙◌}
-use lib.ListN.{length, get_or, take}
+use mathlib.Core.Path.{◌∙◌}
+use lib.ListN.{get_or, take}
 use Rattle.search.specs.After.{Frees}
 use Rattle.table.specs.Limits.{most}
-use Rattle.outer.specs.Interfaces.{interfaces_in}
 use Rattle.outer.proofs.Slots.{few_of, few_resources_of}
 use Rattle.outer.proofs.SharedLaws.{used_length}
 use Rattle.job.specs.View.{view_of}
-use Rattle.job.specs.Sound.{SoundView}
 use Rattle.job.proofs.LentLaws as lent
 use Rattle.job.proofs.WaitLaws.{frees_fewer}
 use Rattle.job.proofs.EndsLaws.{after_lent, job_at}
+use Rattle.ends.proofs.Lending.{lending}
 use Rattle.ends.proofs.job_end.Goals as goal
 
 pub slice_bounds-periods-end : goal.slice_bounds-periods-end
 slice_bounds-periods-end c =
-    let periods_long : c.args.n ≤ length c.args.common.periods = lent.periods_long c.args.n c.args.m c.args.lines.now c.args.common c.requires.sound c.requires.common_value in
-    periods_long
+    let l = lending _ _ _ _ _ c.requires.sound c.requires.common_value c.requires.s_lt_n in
+    l.periods_long
 
 pub slice_bounds-end_after-end : goal.slice_bounds-end_after-end
 slice_bounds-end_after-end c =
-    let periods_long : c.args.n ≤ length c.args.common.periods = lent.periods_long c.args.n c.args.m c.args.lines.now c.args.common c.requires.sound c.requires.common_value in
-    used_length _ _ (periods_long)
+    let l = lending _ _ _ _ _ c.requires.sound c.requires.common_value c.requires.s_lt_n in
+    used_length _ _ l.periods_long
 
 pub slice_bounds-costs-end : goal.slice_bounds-costs-end
 slice_bounds-costs-end c =
-    let costs_long : c.args.n ≤ length c.args.common.costs = lent.costs_long c.args.n c.args.m c.args.lines.now c.args.common c.requires.sound c.requires.common_value in
-    costs_long
+    let l = lending _ _ _ _ _ c.requires.sound c.requires.common_value c.requires.s_lt_n in
+    l.costs_long
 
 pub slice_bounds-end_after-end-2 : goal.slice_bounds-end_after-end-2
 slice_bounds-end_after-end-2 c =
-    let costs_long : c.args.n ≤ length c.args.common.costs = lent.costs_long c.args.n c.args.m c.args.lines.now c.args.common c.requires.sound c.requires.common_value in
-    used_length _ _ (costs_long)
+    let l = lending _ _ _ _ _ c.requires.sound c.requires.common_value c.requires.s_lt_n in
+    used_length _ _ l.costs_long
 
 pub slice_bounds-frees-end : goal.slice_bounds-frees-end
 slice_bounds-frees-end c =
-    let frees_long : c.args.n ≤ length c.args.common.frees = lent.frees_long c.args.n c.args.m c.args.lines.now c.args.common c.requires.sound c.requires.common_value in
-    frees_long
+    let l = lending _ _ _ _ _ c.requires.sound c.requires.common_value c.requires.s_lt_n in
+    l.frees_long
 
 pub slice_bounds-end_after-end-3 : goal.slice_bounds-end_after-end-3
 slice_bounds-end_after-end-3 c =
-    let frees_long : c.args.n ≤ length c.args.common.frees = lent.frees_long c.args.n c.args.m c.args.lines.now c.args.common c.requires.sound c.requires.common_value in
-    used_length _ _ (frees_long)
+    let l = lending _ _ _ _ _ c.requires.sound c.requires.common_value c.requires.s_lt_n in
+    used_length _ _ l.frees_long
 
 pub offset_bounds-ceilings-l : goal.offset_bounds-ceilings-l
 offset_bounds-ceilings-l c =
@@ -64,16 +63,12 @@ held-requires c =
 pub end_after-requires : goal.end_after-requires
 unfolding view_of
 end_after-requires c =
-    let seen : SoundView (view_of (interfaces_in c.args.n c.args.m c.args.lines.now) c.args.s) = lent.lent_sound c.args.n c.args.m c.args.lines.now c.args.common c.requires.sound c.requires.common_value c.args.s c.requires.s_lt_n in
-    let periods_lent : take c.args.n c.args.common.periods ≡ (view_of (interfaces_in c.args.n c.args.m c.args.lines.now) c.args.s).periods = lent.periods_lent c.args.n c.args.m c.args.lines.now c.args.common c.requires.sound c.requires.common_value c.args.s in
-    let costs_lent : take c.args.n c.args.common.costs ≡ (view_of (interfaces_in c.args.n c.args.m c.args.lines.now) c.args.s).costs = lent.costs_lent c.args.n c.args.m c.args.lines.now c.args.common c.requires.sound c.requires.common_value c.args.s in
-    let frees_lent : Frees (take c.args.n c.args.common.periods) (take c.args.n c.args.common.costs) (take c.args.n c.args.common.frees) (get_or c.args.common.ceilings c.args.l 0) = frees_fewer (get_or c.args.common.ceilings c.args.l 0) (lent.frees_lent c.args.n c.args.m c.args.lines.now c.args.common c.requires.sound c.requires.common_value c.args.s c.requires.s_lt_n)
-    (omega (arith, lent.ceiling_lent c.args.n c.args.m c.args.lines.now c.args.common c.requires.sound c.requires.common_value c.args.s c.args.l c.requires.l_lt_m.0, (seen).ceiling_reaches c.args.l (lent.resource_seen c.args.n c.args.m c.args.lines.now c.args.s c.args.l c.requires.s_lt_n c.requires.l_lt_m.0) c.requires.l_lt_m.1)) in
-    record { budget_over = after_lent _ (seen) (periods_lent) (costs_lent) c.requires.counted c.args.l (lent.resource_seen c.args.n c.args.m c.args.lines.now c.args.s c.args.l c.requires.s_lt_n c.requires.l_lt_m.0) c.requires.l_lt_m.1 (lent.ceiling_lent c.args.n c.args.m c.args.lines.now c.args.common c.requires.sound c.requires.common_value c.args.s c.args.l c.requires.l_lt_m.0) c.budget_end-end.ensures (c.held.ensures ∙ lent.held_lent c.args.n c.args.m c.args.lines.now c.args.s c.args.l c.requires.s_lt_n c.requires.l_lt_m.0); frees = frees_lent }
+    let l = lending _ _ _ _ _ c.requires.sound c.requires.common_value c.requires.s_lt_n in
+    let frees_lent : Frees (take c.args.n c.args.common.periods) (take c.args.n c.args.common.costs) (take c.args.n c.args.common.frees) (get_or c.args.common.ceilings c.args.l 0) = frees_fewer (get_or c.args.common.ceilings c.args.l 0) (l.frees_lent)
+    (omega (arith, lent.ceiling_lent c.args.n c.args.m c.args.lines.now c.args.common c.requires.sound c.requires.common_value c.args.s c.args.l c.requires.l_lt_m.0, l.seen.ceiling_reaches c.args.l (lent.resource_seen c.args.n c.args.m c.args.lines.now c.args.s c.args.l c.requires.s_lt_n c.requires.l_lt_m.0) c.requires.l_lt_m.1)) in
+    record { budget_over = after_lent _ l.seen l.periods_lent l.costs_lent c.requires.counted c.args.l (lent.resource_seen c.args.n c.args.m c.args.lines.now c.args.s c.args.l c.requires.s_lt_n c.requires.l_lt_m.0) c.requires.l_lt_m.1 (lent.ceiling_lent c.args.n c.args.m c.args.lines.now c.args.common c.requires.sound c.requires.common_value c.args.s c.args.l c.requires.l_lt_m.0) c.budget_end-end.ensures (c.held.ensures ∙ lent.held_lent c.args.n c.args.m c.args.lines.now c.args.s c.args.l c.requires.s_lt_n c.requires.l_lt_m.0); frees = frees_lent }
 
 pub returns : goal.returns
 returns c =
-    let seen : SoundView (view_of (interfaces_in c.args.n c.args.m c.args.lines.now) c.args.s) = lent.lent_sound c.args.n c.args.m c.args.lines.now c.args.common c.requires.sound c.requires.common_value c.args.s c.requires.s_lt_n in
-    let periods_lent : take c.args.n c.args.common.periods ≡ (view_of (interfaces_in c.args.n c.args.m c.args.lines.now) c.args.s).periods = lent.periods_lent c.args.n c.args.m c.args.lines.now c.args.common c.requires.sound c.requires.common_value c.args.s in
-    let costs_lent : take c.args.n c.args.common.costs ≡ (view_of (interfaces_in c.args.n c.args.m c.args.lines.now) c.args.s).costs = lent.costs_lent c.args.n c.args.m c.args.lines.now c.args.common c.requires.sound c.requires.common_value c.args.s in
-    job_at _ (seen) (periods_lent) (costs_lent) c.requires.counted c.args.l (lent.resource_seen c.args.n c.args.m c.args.lines.now c.args.s c.args.l c.requires.s_lt_n c.requires.l_lt_m.0) c.requires.l_lt_m.1 (lent.ceiling_lent c.args.n c.args.m c.args.lines.now c.args.common c.requires.sound c.requires.common_value c.args.s c.args.l c.requires.l_lt_m.0) c.budget_end-end.ensures (c.held.ensures ∙ lent.held_lent c.args.n c.args.m c.args.lines.now c.args.s c.args.l c.requires.s_lt_n c.requires.l_lt_m.0) c.end_after.ensures
+    let l = lending _ _ _ _ _ c.requires.sound c.requires.common_value c.requires.s_lt_n in
+    job_at _ l.seen l.periods_lent l.costs_lent c.requires.counted c.args.l (lent.resource_seen c.args.n c.args.m c.args.lines.now c.args.s c.args.l c.requires.s_lt_n c.requires.l_lt_m.0) c.requires.l_lt_m.1 (lent.ceiling_lent c.args.n c.args.m c.args.lines.now c.args.common c.requires.sound c.requires.common_value c.args.s c.args.l c.requires.l_lt_m.0) c.budget_end-end.ensures (c.held.ensures ∙ lent.held_lent c.args.n c.args.m c.args.lines.now c.args.s c.args.l c.requires.s_lt_n c.requires.l_lt_m.0) c.end_after.ensures

@@ -1,8 +1,6 @@
 use borrow.Author.Rules.{rules}
-use Prim.Native.Nat.{◌≤◌}
 use native.Mathlib.Omega.{arith}
 use mathlib.Core.Path.{refl, sym, ap, ◌∙◌}
-use lib.ListN.{length}
 use Rattle.lists.specs.Range.{padded}
 use Rattle.lists.proofs.UpTo.{padded_none}
 use Rattle.table.specs.Limits.{most}
@@ -45,43 +43,35 @@ first_failing_task-failing-requires c =
 
 pub slice_bounds-periods-end : goal.slice_bounds-periods-end
 slice_bounds-periods-end c =
-    let periods_long : c.args.n ≤ length c.in_common-common.result.periods = lent.periods_long c.args.n c.args.m _ _ (sound_lines _ _ _ _ c.interfaces_of.ensures c.requires.sound_system) c.in_common-common.ensures in
-    periods_long
+    lent.periods_long c.args.n c.args.m _ _ (sound_lines _ _ _ _ c.interfaces_of.ensures c.requires.sound_system) c.in_common-common.ensures
 
 pub slice_bounds-row_of-end : goal.slice_bounds-row_of-end
 slice_bounds-row_of-end c =
-    let periods_long : c.args.n ≤ length c.in_common-common.result.periods = lent.periods_long c.args.n c.args.m _ _ (sound_lines _ _ _ _ c.interfaces_of.ensures c.requires.sound_system) c.in_common-common.ensures in
-    used_length _ _ (periods_long)
+    used_length _ _ (lent.periods_long c.args.n c.args.m _ _ (sound_lines _ _ _ _ c.interfaces_of.ensures c.requires.sound_system) c.in_common-common.ensures)
 
 pub slice_bounds-costs-end : goal.slice_bounds-costs-end
 slice_bounds-costs-end c =
-    let costs_long : c.args.n ≤ length c.in_common-common.result.costs = lent.costs_long c.args.n c.args.m _ _ (sound_lines _ _ _ _ c.interfaces_of.ensures c.requires.sound_system) c.in_common-common.ensures in
-    costs_long
+    lent.costs_long c.args.n c.args.m _ _ (sound_lines _ _ _ _ c.interfaces_of.ensures c.requires.sound_system) c.in_common-common.ensures
 
 pub slice_bounds-row_of-end-in-loop-s : goal.slice_bounds-row_of-end-in-loop-s
 slice_bounds-row_of-end-in-loop-s c =
-    let costs_long : c.args.n ≤ length c.in_common-common.result.costs = lent.costs_long c.args.n c.args.m _ _ (sound_lines _ _ _ _ c.interfaces_of.ensures c.requires.sound_system) c.in_common-common.ensures in
-    used_length _ _ (costs_long)
+    used_length _ _ (lent.costs_long c.args.n c.args.m _ _ (sound_lines _ _ _ _ c.interfaces_of.ensures c.requires.sound_system) c.in_common-common.ensures)
 
 pub slice_bounds-frees-end : goal.slice_bounds-frees-end
 slice_bounds-frees-end c =
-    let frees_long : c.args.n ≤ length c.in_common-common.result.frees = lent.frees_long c.args.n c.args.m _ _ (sound_lines _ _ _ _ c.interfaces_of.ensures c.requires.sound_system) c.in_common-common.ensures in
-    frees_long
+    lent.frees_long c.args.n c.args.m _ _ (sound_lines _ _ _ _ c.interfaces_of.ensures c.requires.sound_system) c.in_common-common.ensures
 
 pub slice_bounds-row_of-end-in-loop-s-2 : goal.slice_bounds-row_of-end-in-loop-s-2
 slice_bounds-row_of-end-in-loop-s-2 c =
-    let frees_long : c.args.n ≤ length c.in_common-common.result.frees = lent.frees_long c.args.n c.args.m _ _ (sound_lines _ _ _ _ c.interfaces_of.ensures c.requires.sound_system) c.in_common-common.ensures in
-    used_length _ _ (frees_long)
+    used_length _ _ (lent.frees_long c.args.n c.args.m _ _ (sound_lines _ _ _ _ c.interfaces_of.ensures c.requires.sound_system) c.in_common-common.ensures)
 
 pub slice_bounds-ceilings-end : goal.slice_bounds-ceilings-end
 slice_bounds-ceilings-end c =
-    let ceilings_long : c.args.m ≤ length c.in_common-common.result.ceilings = lent.ceilings_long c.args.n c.args.m _ _ (sound_lines _ _ _ _ c.interfaces_of.ensures c.requires.sound_system) c.in_common-common.ensures in
-    ceilings_long
+    lent.ceilings_long c.args.n c.args.m _ _ (sound_lines _ _ _ _ c.interfaces_of.ensures c.requires.sound_system) c.in_common-common.ensures
 
 pub slice_bounds-row_of-end-in-loop-s-3 : goal.slice_bounds-row_of-end-in-loop-s-3
 slice_bounds-row_of-end-in-loop-s-3 c =
-    let ceilings_long : c.args.m ≤ length c.in_common-common.result.ceilings = lent.ceilings_long c.args.n c.args.m _ _ (sound_lines _ _ _ _ c.interfaces_of.ensures c.requires.sound_system) c.in_common-common.ensures in
-    used_length _ _ (ceilings_long)
+    used_length _ _ (lent.ceilings_long c.args.n c.args.m _ _ (sound_lines _ _ _ _ c.interfaces_of.ensures c.requires.sound_system) c.in_common-common.ensures)
 
 pub row_of-requires : goal.row_of-requires
 row_of-requires c =

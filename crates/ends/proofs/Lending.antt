@@ -1,0 +1,46 @@
+-- What the functions here lend of interfaces and of what their rows share, for the subsystem with index s: laws of crate job, put
+-- together once. Assumes nothing.
+use Prim.Native.Nat.{ℕ, ◌+◌, ◌≤◌, ◌<◌}
+use native.Mathlib.Omega.{arith}
+use mathlib.Core.Path.{◌≡◌}
+use mathlib.Core.List.{List}
+use lib.ListN.{length, take}
+use Rattle.search.specs.After.{Fit, Frees}
+use Rattle.table.specs.Limits.{most}
+use Rattle.outer.specs.declared.ceilings.Common.{Common}
+use Rattle.outer.specs.Interfaces.{interfaces_in}
+use Rattle.outer.specs.Common.{common_of}
+use Rattle.outer.specs.Sound.{Sound}
+use Rattle.outer.proofs.Slots.{few_of}
+use Rattle.job.specs.View.{view_of}
+use Rattle.job.specs.Sound.{SoundView}
+use Rattle.job.proofs.LentLaws as lent
+
+pub record Lending (n m : ℕ) (lines : List (List ℕ)) (common : Common) (s : ℕ) : Type 0 where
+  pub listed : s < most
+  pub periods_long : n ≤ length common.periods
+  pub costs_long : n ≤ length common.costs
+  pub frees_long : n ≤ length common.frees
+  pub seen : SoundView (view_of (interfaces_in n m lines) s)
+  pub periods_lent : take n common.periods ≡ (view_of (interfaces_in n m lines) s).periods
+  pub costs_lent : take n common.costs ≡ (view_of (interfaces_in n m lines) s).costs
+  pub frees_lent : Frees (take n common.periods) (take n common.costs) (take n common.frees) (s + 1)
+  pub fits : Fit (take n common.periods) (take n common.costs) (s + 1)
+
+pub lending : (n m : ℕ) (lines : List (List ℕ)) (common : Common) (s : ℕ) → Sound (interfaces_in n m lines) → common ≡ common_of (interfaces_in n m lines) → s < n → Lending n m lines common s
+unfolding view_of
+lending n m lines common s sound e h =
+    let seen = lent.lent_sound n m lines common sound e s h in
+    let periods_lent = lent.periods_lent n m lines common sound e s in
+    let costs_lent = lent.costs_lent n m lines common sound e s in
+    record {
+      listed = omega (arith, few_of n m lines sound, h);
+      periods_long = lent.periods_long n m lines common sound e;
+      costs_long = lent.costs_long n m lines common sound e;
+      frees_long = lent.frees_long n m lines common sound e;
+      seen = seen;
+      periods_lent = periods_lent;
+      costs_lent = costs_lent;
+      frees_lent = lent.frees_lent n m lines common sound e s h;
+      fits = rw (periods_lent, costs_lent) seen.fit;
+    }

@@ -1,0 +1,2 @@
+-- What a subsystem is lent of what all rows share.
+pub mod Lending
