@@ -9,8 +9,6 @@ ghost use Rattle.least.specs.Demand.{demand};
 ghost use Rattle.least.specs.Share.{unit, shares, Fitting, standing_at};
 ghost use Rattle.least.specs.Search.{Loads, reach};
 
-use numbers::wide;
-
 // Shares of a tick are counted in parts of this: 2 ^ 40.
 const UNIT: u64 = 1_099_511_627_776;
 
@@ -30,7 +28,7 @@ fn load_in(period: u32, cost: u32, x: u32) -> u64
     requires { (1 ≤ period) × (cost < 2 ^ 20) × (1 ≤ x) × (x < reach) }
     ensures { (result ≡ up x period * cost) × (result < 2 ^ 44) }
 {
-    wide(round_up(x, period)) * wide(cost)
+    u64::from(round_up(x, period)) * u64::from(cost)
 }
 
 // What the first n loads ask for in x ticks.
@@ -40,10 +38,8 @@ pub fn demand_in(periods: &[u32], costs: &[u32], n: usize, x: u32) -> u64
     ensures { (result ≡ demand periods.now costs.now n x) × (result ≤ 2 ^ 48) }
 {
     let mut sum: u64 = 0;
-    let mut t: usize = 0;
-    while t < n {
+    for t in 0..n {
         sum += load_in(periods[t], costs[t], x);
-        t += 1;
     }
     sum
 }
@@ -53,7 +49,7 @@ fn share_of(period: u32, cost: u32) -> u64
     requires { (1 ≤ period) × (cost < 2 ^ 20) }
     ensures { (result ≡ cost * unit / period) × (result < 2 ^ 60) }
 {
-    wide(cost) * UNIT / wide(period)
+    u64::from(cost) * UNIT / u64::from(period)
 }
 
 // What the first n loads leave free of every tick, in parts of `UNIT`; 0 where they leave nothing.
@@ -62,15 +58,10 @@ pub fn spare_of(periods: &[u32], costs: &[u32], n: usize) -> u64
     ensures { result ≡ unit - shares periods.now costs.now n }
 {
     let mut sum: u64 = 0;
-    let mut j: usize = 0;
-    while j < n {
+    for j in 0..n {
         sum += share_of(periods[j], costs[j]);
-        j += 1;
     }
-    if UNIT <= sum {
-        return 0;
-    }
-    UNIT - sum
+    UNIT.saturating_sub(sum)
 }
 
 // How far the first so many ticks of work reach where loads leave `spare` of every tick: a search with that much to do besides them may
@@ -79,11 +70,8 @@ pub fn standing(constant: u32, spare: u64) -> u32
     requires { (constant < reach) × (1 ≤ spare) }
     ensures { result ≡ standing_at constant spare }
 {
-    let reached = wide(constant) * UNIT / spare;
-    if wide(REACH) < reached {
-        return REACH;
-    }
-    reached as u32
+    let reached = u64::from(constant) * UNIT / spare;
+    reached.min(u64::from(REACH)) as u32
 }
 
 // How many of the first n loads ask together for no more than every tick has. With one more they are never done with what they
@@ -93,13 +81,11 @@ pub fn fitting(periods: &[u32], costs: &[u32], n: usize) -> usize
     ensures { Fitting periods.now costs.now n result }
 {
     let mut sum: u64 = 0;
-    let mut j: usize = 0;
-    while j < n {
+    for j in 0..n {
         sum += share_of(periods[j], costs[j]);
         if UNIT < sum {
             return j;
         }
-        j += 1;
     }
     n
 }

@@ -7,7 +7,7 @@ use Rattle.least.proofs.demand_in.Goals as goal
 
 pub loop-t-init : goal.loop-t-init
 loop-t-init c =
-    (omega arith, sym (demand_zero _ _ _))
+    sym (demand_zero _ _ _)
 
 pub load_in-sum-requires : goal.load_in-sum-requires
 load_in-sum-requires c =
@@ -15,15 +15,15 @@ load_in-sum-requires c =
 
 pub overflow_add-sum : goal.overflow_add-sum
 overflow_add-sum c =
-    omega (arith, demand_below _ _ c.loop-t.t c.args.x (loads_fewer c.loop-t.t c.requires.loads c.loop-t.invariant.0) c.requires.le_x.1, c.requires.loads.few)
+    omega (arith, demand_below _ _ c.loop-t.t c.args.x (loads_fewer c.loop-t.t c.requires.loads (omega arith)) c.requires.le_x.1, c.requires.loads.few)
 
 pub loop-t-preserved : goal.loop-t-preserved
 loop-t-preserved c =
-    (omega arith, omega (arith, demand_suc c.args.periods.now c.args.costs.now c.loop-t.t c.args.x, c.load_in-sum.ensures.0, c.loop-t.invariant.1))
+    omega (arith, demand_suc c.args.periods.now c.args.costs.now c.loop-t.t c.args.x, c.load_in-sum.ensures.0, c.loop-t.invariant)
 
 pub returns : goal.returns
 returns c =
     let e : c.loop-t.t ≡ c.args.n = omega arith in (
-      c.loop-t.invariant.1 ∙ ap (λ (k : ℕ). demand c.args.periods.now c.args.costs.now k c.args.x) e,
-      omega (arith, demand_below _ _ c.loop-t.t c.args.x (loads_fewer c.loop-t.t c.requires.loads c.loop-t.invariant.0) c.requires.le_x.1, c.requires.loads.few),
+      c.loop-t.invariant ∙ ap (λ (k : ℕ). demand c.args.periods.now c.args.costs.now k c.args.x) e,
+      omega (arith, demand_below _ _ c.loop-t.t c.args.x (loads_fewer c.loop-t.t c.requires.loads (omega arith)) c.requires.le_x.1, c.requires.loads.few),
     )

@@ -1,12 +1,8 @@
 -- `least::demand_in` meets its contract. The loop's invariant: the sum is what the loads passed so far ask for.
 -- Assumes nothing.
-use Prim.Native.Nat.{◌-◌, ◌≤◌}
 use mathlib.Core.Path.{◌≡◌}
 use Rattle.least.specs.Demand.{demand}
 use Rattle.least.proofs.demand_in.Given as goal
 
 abbrev pub invariant-loop-t : goal.invariant-loop-t
-invariant-loop-t l = (l.t ≤ l.n) × (l.sum ≡ demand l.periods l.costs l.t l.x)
-
-abbrev pub decreases-loop-t : goal.decreases-loop-t
-decreases-loop-t l = l.n - l.t
+invariant-loop-t l = (l.sum ≡ demand l.periods l.costs l.t l.x)

