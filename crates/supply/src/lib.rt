@@ -23,11 +23,7 @@ pub fn supply_in(period: u32, budget: u32, end: u32, x: u32) -> u32
     let whole = past / period;
     let rest = past - whole * period;
     let full = whole * budget;
-    if rest <= idle {
-        full
-    } else {
-        full + (rest - idle)
-    }
+    full + rest.saturating_sub(idle)
 }
 
 // The shortest window that is sure to hold `n` ticks, under the same condition. One division, of 32 bits.
@@ -36,9 +32,9 @@ pub fn moment_of(period: u32, budget: u32, end: u32, n: u32) -> u64
     requires le_n { (1 ≤ n) × (n < 2 ^ 31) }
     ensures { result ≡ moment_of period budget end n }
 {
-    let gap = numbers::wide(period - budget) + numbers::wide(end - budget);
+    let gap = u64::from(period - budget) + u64::from(end - budget);
     let before = n - 1;
     let whole = before / budget;
     let rest = before - whole * budget;
-    gap + numbers::wide(whole) * numbers::wide(period) + (numbers::wide(rest) + 1)
+    gap + u64::from(whole) * u64::from(period) + (u64::from(rest) + 1)
 }

@@ -9,10 +9,6 @@ pub loop-t-init : goal.loop-t-init
 loop-t-init c =
     sym (demand_zero _ _ _)
 
-pub load_in-sum-requires : goal.load_in-sum-requires
-load_in-sum-requires c =
-    (c.requires.loads.period_pos c.loop-t.t (omega arith), c.requires.loads.cost_small c.loop-t.t (omega arith), c.requires.le_x.0, c.requires.le_x.1)
-
 pub overflow_add-sum : goal.overflow_add-sum
 overflow_add-sum c =
     omega (arith, demand_below _ _ c.loop-t.t c.args.x (loads_fewer c.loop-t.t c.requires.loads (omega arith)) c.requires.le_x.1, c.requires.loads.few)

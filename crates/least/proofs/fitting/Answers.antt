@@ -1,4 +1,4 @@
-use mathlib.Core.Path.{◌≡◌, sym}
+use mathlib.Core.Path.{sym}
 use Rattle.least.proofs.ShareLaws.{shares_none, shares_turn}
 use native.Mathlib.Omega.{arith}
 use Rattle.least.proofs.fitting.Goals as goal
@@ -7,10 +7,6 @@ pub loop-j-init : goal.loop-j-init
 loop-j-init c =
     (sym (shares_none _ _), omega arith)
 
-pub share_of-sum-requires : goal.share_of-sum-requires
-share_of-sum-requires c =
-    (c.requires.period_pos _ (omega arith), c.requires.cost_small _ (omega arith))
-
 pub returns-then-sum-gt-UNIT : goal.returns-then-sum-gt-UNIT
 returns-then-sum-gt-UNIT c =
     record { few = omega arith; fits = omega (arith, c.loop-j.invariant.0, c.loop-j.invariant.1); over = λ _. omega (arith, shares_turn _ _ c.loop-j.j c.loop-j.sum _ c.loop-j.invariant.0 c.share_of-sum.ensures.0, c.if-sum-gt-UNIT.true) }
@@ -18,8 +14,3 @@ returns-then-sum-gt-UNIT c =
 pub loop-j-preserved : goal.loop-j-preserved
 loop-j-preserved c =
     (shares_turn _ _ c.loop-j.j c.loop-j.sum _ c.loop-j.invariant.0 c.share_of-sum.ensures.0, c.if-sum-gt-UNIT.false)
-
-pub returns : goal.returns
-returns c =
-    let all : c.loop-j.j ≡ c.args.n = omega arith in
-    record { few = omega arith; fits = rw (← all) (omega (arith, c.loop-j.invariant.0, c.loop-j.invariant.1)); over = λ u. absurd (omega arith) }

@@ -7,14 +7,6 @@ pub loop-j-init : goal.loop-j-init
 loop-j-init c =
     (sym (shares_none _ _), omega arith)
 
-pub share_of-sum-requires : goal.share_of-sum-requires
-share_of-sum-requires c =
-    (c.requires.period_pos _ (omega arith), c.requires.cost_small _ (omega arith))
-
-pub overflow_add-sum : goal.overflow_add-sum
-overflow_add-sum c =
-    omega (arith, c.loop-j.invariant.1, c.requires.few, c.share_of-sum.ensures.1)
-
 pub loop-j-preserved : goal.loop-j-preserved
 loop-j-preserved c =
     (shares_turn _ _ c.loop-j.j c.loop-j.sum _ c.loop-j.invariant.0 c.share_of-sum.ensures.0, omega (arith, c.loop-j.invariant.1, c.share_of-sum.ensures.1))
