@@ -132,6 +132,16 @@ module _ (periods costs ends : List ℕ) (x start : ℕ) where
     sum_small few u v t h after sum a =
         omega (arith, a.to_do, sum_to_at_most (on_costs periods costs ends start) t (2 ^ 25) (λ j w. on_small v j (omega arith)))
 
+    -- So do those of load t, which asks on as the code works it out.
+    pub asked_fits :
+        n ≤ slots → x < reach → start ≤ reach → {t : ℕ} → t < n → {after : List ℕ} {sum : ℕ} → Advancing periods costs ends x start t after sum →
+        t < length after → get_or after t 0 < start → {times : ℕ} → times ≡ up (start - get_or after t 0) (get_or periods t 0) →
+        (get_or after t 0 + times * get_or periods t 0 < 2 ^ 26) × (sum + times * get_or costs t 0 < 2 ^ 29)
+    asked_fits few u v {t} h {after} {sum} a room late {times} e = (
+      omega (arith, late, v, ap (λ (k : ℕ). k * get_or periods t 0) e, up_is_tight (start - get_or after t 0) (get_or periods t 0) (f.loads.period_pos t h), f.period_small t h),
+      sum_small few u v (t + 1) (omega arith) _ _ (asks_on t after sum a times e room),
+    )
+
     -- Once all have asked on, each has asked as often as it does by `start`.
     module _ (y : ℕ) (h : y ≤ start) (ends_at : EndsAt periods ends n y) where
       asked_all : (t : ℕ) → t < n → up start (get_or periods t 0) ≡ up y (get_or periods t 0) + asked_on periods ends start t

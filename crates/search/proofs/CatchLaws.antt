@@ -3,7 +3,7 @@
 use Prim.Native.Nat.{ℕ, ◌+◌, ◌-◌, ◌*◌, ◌^◌, ◌≤◌, ◌<◌}
 use native.Mathlib.Nat.{mul-add, mul-le-mul_right, mul-le-mul, lt_of_le_of_lt}
 use native.Mathlib.Omega.{arith}
-use mathlib.Core.Path.{◌≡◌, refl, sym, ap, ◌∙◌}
+use mathlib.Core.Path.{◌≡◌, refl, sym, ap, ap₂, ◌∙◌}
 use mathlib.Core.Logic.{⊎_elim}
 use mathlib.Core.List.{List}
 use lib.Dec.{lit<}
@@ -99,3 +99,13 @@ module _ (ends : List ℕ) (t x period cost free bound : ℕ) (b : Behind (get_o
           too_much = λ u p a. omega (arith, least_asked p a);
           same_length = refl;
         }
+
+    -- As the code works it out, which asks q times: what there is then to do, and that it fits as the end that moves on does.
+    module _ {q wide_x wide_q wide_cost : ℕ} (eq : q ≡ times) (ex : wide_x ≡ x) (ew : wide_q ≡ q) (ec : wide_cost ≡ cost) where
+      pub reached_is : wide_x + wide_q * wide_cost ≡ x + times * cost
+      reached_is = ap₂ ◌+◌ ex (ap₂ ◌*◌ (ew ∙ eq) ec)
+
+      pub moves_on : wide_x + wide_q * wide_cost ≤ bound → (wide_x + wide_q * wide_cost < reach) × (end + q * period < 2 ^ 32)
+      moves_on h =
+          let reachable = in_reach (omega (arith, h, reached_is)) in
+          (omega (arith, reachable, reached_is), omega (arith, ends_small reachable, ap (λ (k : ℕ). k * period) eq))

@@ -10,7 +10,6 @@ ghost use Rattle.least.specs.Search.{ComesDown, IsLeast, reach};
 ghost use Rattle.search.specs.After.{Fit, Periods, EndsAt, slots, afterwards, After, Bounded, Found, Behind, CaughtUp, Advanced};
 
 use least::{REACH, round_up};
-use numbers::wide;
 
 // How many loads a search may have.
 pub const SLOTS: usize = 8;
@@ -41,7 +40,7 @@ fn ask(
         return REACH;
     }
     let times = round_up(behind, frees[t]);
-    let reached = wide(x) + wide(times) * wide(costs[t]);
+    let reached = u64::from(x) + u64::from(times) * u64::from(costs[t]);
     if bound < reached {
         return REACH;
     }
@@ -55,10 +54,8 @@ pub fn ends_at(periods: &[u32], n: usize, y: u32, ends: &mut [u32; SLOTS])
     requires le_y { (1 ≤ y) × (y < 2 ^ 25) }
     ensures { EndsAt periods.now ends.new n y × (length ends.new ≡ length ends.old) }
 {
-    let mut t: usize = 0;
-    while t < n {
+    for t in 0..n {
         ends[t] = round_up(y, periods[t]) * periods[t];
-        t += 1;
     }
 }
 
@@ -76,14 +73,12 @@ fn advanced(
     ensures { Advanced periods.now costs.now ends.old n x start ends.new result }
 {
     let mut sum = x;
-    let mut t: usize = 0;
-    while t < n {
+    for t in 0..n {
         if ends[t] < start {
             let times = round_up(start - ends[t], periods[t]);
             ends[t] += times * periods[t];
             sum += times * costs[t];
         }
-        t += 1;
     }
     sum
 }
@@ -111,21 +106,19 @@ fn climb(
     let mut x = y + more;
     if x < start {
         x = advanced(periods, costs, n, ends, x, start);
-        if bound < wide(x) {
+        if bound < u64::from(x) {
             return x;
         }
     }
-    loop {
+    'passes: loop {
         let before = x;
-        let mut t: usize = 0;
-        while t < n {
+        for t in 0..n {
             if ends[t] < x {
                 x = ask(periods, costs, frees, t, ends, x, bound);
-                if bound < wide(x) {
+                if bound < u64::from(x) {
                     return x;
                 }
             }
-            t += 1;
         }
         if x == before {
             return x;
@@ -150,7 +143,17 @@ pub fn least_after(
     ensures found { Found periods.now costs.now ends.new n (afterwards periods.now costs.now n y more) bound result }
     ensures ends_len_unchanged { length ends.new ≡ length ends.old }
 {
-    climb(periods, costs, frees, n, ends, y, more, start, wide(bound))
+    climb(
+        periods,
+        costs,
+        frees,
+        n,
+        ends,
+        y,
+        more,
+        start,
+        u64::from(bound),
+    )
 }
 
 // The same where the total is known to come down within reach: there is a least solution then, and nothing is compared with a bound.

@@ -1,11 +1,7 @@
 -- `search::advanced` meets its contract. The loop's invariant: the loads so far have asked on until `start`. Assumes nothing.
-use Prim.Native.Nat.{◌-◌, ◌≤◌}
 use Rattle.search.proofs.AdvanceLaws.{Advancing}
 use Rattle.search.proofs.advanced.Given as goal
 
 abbrev pub invariant-loop-t : goal.invariant-loop-t
 invariant-loop-t l =
-    (l.t ≤ l.n) × Advancing l.periods l.costs l.initial.ends l.x l.start l.t l.ends l.sum
-
-abbrev pub decreases-loop-t : goal.decreases-loop-t
-decreases-loop-t l = l.n - l.t
+    Advancing l.periods l.costs l.initial.ends l.x l.start l.t l.ends l.sum

@@ -1,6 +1,6 @@
 -- `search::climb` meets its contract. The invariant of both loops: x is what there is to do once the loads have asked as often as `ends`
 -- says; in a pass, unless x has grown in it, the loads so far are ahead (`Passed`). Assumes nothing.
-use Prim.Native.Nat.{◌-◌, ◌^◌, ◌≤◌, ◌<◌}
+use Prim.Native.Nat.{◌-◌, ◌^◌, ◌<◌}
 use mathlib.Core.Path.{◌≡◌}
 use lib.ListN.{length}
 use Rattle.search.specs.After.{afterwards}
@@ -10,14 +10,11 @@ use Rattle.search.proofs.climb.Given as goal
 
 abbrev pub invariant-loop-t : goal.invariant-loop-t
 invariant-loop-t l =
-    (l.t ≤ l.n) × (length l.ends ≡ length l.fn.ends) × Climbing l.periods l.costs l.ends l.n (afterwards l.periods l.costs l.n l.y l.more) l.x × (l.x < 2 ^ 25) × Passed l.ends l.before l.x l.t
+    (length l.ends ≡ length l.fn.ends) × Climbing l.periods l.costs l.ends l.n (afterwards l.periods l.costs l.n l.y l.more) l.x × (l.x < 2 ^ 25) × Passed l.ends l.before l.x l.t
 
-abbrev pub decreases-loop-t : goal.decreases-loop-t
-decreases-loop-t l = l.n - l.t
-
-abbrev pub invariant-loop-ends : goal.invariant-loop-ends
-invariant-loop-ends l =
+abbrev pub invariant-passes : goal.invariant-passes
+invariant-passes l =
     (length l.ends ≡ length l.fn.ends) × Climbing l.periods l.costs l.ends l.n (afterwards l.periods l.costs l.n l.y l.more) l.x × (l.x < 2 ^ 25)
 
-abbrev pub decreases-loop-ends : goal.decreases-loop-ends
-decreases-loop-ends l = 2 ^ 25 - l.x
+abbrev pub decreases-passes : goal.decreases-passes
+decreases-passes l = 2 ^ 25 - l.x

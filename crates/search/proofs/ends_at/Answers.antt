@@ -1,24 +1,15 @@
 use Prim.Native.Nat.{ℕ, ◌*◌, ◌<◌, ◌^◌}
 use mathlib.Core.Path.{◌≡◌, refl, ap, ◌∙◌}
-use mathlib.Core.List.{List}
 use lib.ListN.{get_or, length-set}
 use Rattle.lists.proofs.Filled.{filled_none, filled_more, filled_at}
 use Rattle.least.specs.Up.{up}
 use Rattle.least.proofs.Up.{up_is_tight}
-use borrow.Author.Rules.{rules}
 use native.Mathlib.Omega.{arith}
 use Rattle.search.proofs.ends_at.Goals as goal
 
-abbrev EndOf : List ℕ → ℕ → ℕ → ℕ → Type 0
-EndOf periods y i x = x ≡ up y (get_or periods i 0) * get_or periods i 0
-
 pub loop-t-init : goal.loop-t-init
 loop-t-init c =
-    (search rules, refl, filled_none 0 _ 0 _)
-
-pub round_up-requires : goal.round_up-requires
-round_up-requires c =
-    (c.requires.le_y.0, c.requires.periods.0.period_pos _ c.loop-t-test.true)
+    (refl, filled_none 0 _ 0 _)
 
 pub overflow_mul-ends : goal.overflow_mul-ends
 overflow_mul-ends c =
@@ -26,15 +17,11 @@ overflow_mul-ends c =
     let end_small : up c.args.y (get_or c.args.periods.now (c.loop-t.t) 0) * get_or c.args.periods.now (c.loop-t.t) 0 < 2 ^ 26 = omega (arith, up_is_tight c.args.y (get_or c.args.periods.now (c.loop-t.t) 0) (c.requires.periods.0.period_pos (c.loop-t.t) c.loop-t-test.true), c.requires.periods.0.period_small (c.loop-t.t) c.loop-t-test.true, c.requires.le_y.1) in
     record { fits = omega (arith, end_is, end_small) }
 
-pub bounds-ends-t : goal.bounds-ends-t
-bounds-ends-t c =
-    omega (arith, c.loop-t-test.true, c.requires.periods.1)
-
 pub loop-t-preserved : goal.loop-t-preserved
 loop-t-preserved c =
     let end_is : c.round_up.result * get_or c.args.periods.now (c.loop-t.t) 0 ≡ up c.args.y (get_or c.args.periods.now (c.loop-t.t) 0) * get_or c.args.periods.now (c.loop-t.t) 0 = ap (λ (q : ℕ). q * get_or c.args.periods.now (c.loop-t.t) 0) c.round_up.ensures in
-    (omega (arith, c.loop-t-test.true), length-set c.loop-t.ends c.loop-t.t _ ∙ c.loop-t.invariant.1, filled_more 0 _ 0 c.loop-t.ends c.loop-t.t c.loop-t.t _ (omega arith) (omega (arith, c.loop-t-test.true, c.requires.periods.2, c.loop-t.invariant.1)) c.loop-t.invariant.2 (end_is))
+    (length-set c.loop-t.ends c.loop-t.t _ ∙ c.loop-t.invariant.0, filled_more 0 _ 0 c.loop-t.ends c.loop-t.t c.loop-t.t _ (omega arith) (omega (arith, c.loop-t-test.true, c.requires.periods.2, c.loop-t.invariant.0)) c.loop-t.invariant.1 end_is)
 
 pub returns : goal.returns
 returns c =
-    (λ t u. filled_at 0 _ 0 c.loop-t.ends c.loop-t.t t t (omega arith) c.loop-t.invariant.2 (omega (arith, c.loop-t-test.false)), c.loop-t.invariant.1)
+    (λ t u. filled_at 0 _ 0 c.loop-t.ends c.loop-t.t t t (omega arith) c.loop-t.invariant.1 (omega arith), c.loop-t.invariant.0)

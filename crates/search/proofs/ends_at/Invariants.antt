@@ -1,5 +1,5 @@
 -- `search::ends_at` meets its contract. The loop's invariant: the ends so far are filled in. Assumes nothing.
-use Prim.Native.Nat.{ℕ, ◌*◌, ◌-◌, ◌≤◌}
+use Prim.Native.Nat.{ℕ, ◌*◌}
 use mathlib.Core.Path.{◌≡◌}
 use mathlib.Core.List.{List}
 use lib.ListN.{length, get_or}
@@ -11,7 +11,4 @@ abbrev EndOf : List ℕ → ℕ → ℕ → ℕ → Type 0
 EndOf periods y i x = x ≡ up y (get_or periods i 0) * get_or periods i 0
 
 abbrev pub invariant-loop-t : goal.invariant-loop-t
-invariant-loop-t l = (l.t ≤ l.n) × (length l.ends ≡ length l.initial.ends) × Filled 0 (EndOf l.periods l.y) 0 l.ends l.t
-
-abbrev pub decreases-loop-t : goal.decreases-loop-t
-decreases-loop-t l = l.n - l.t
+invariant-loop-t l = (length l.ends ≡ length l.initial.ends) × Filled 0 (EndOf l.periods l.y) 0 l.ends l.t

@@ -5,8 +5,8 @@ use Rattle.search.proofs.least_after.Goals as goal
 
 pub climb-requires : goal.climb-requires
 climb-requires c =
-    record { after = c.requires.after; bounded = inl (omega (arith, c.wide.ensures.0, c.requires.bound_lt_reach)) }
+    record { after = c.requires.after; bounded = inl (omega (arith, c.from.ensures, c.requires.bound_lt_reach)) }
 
 pub returns : goal.returns
 returns c =
-    rw c.wide.ensures.0 at c.climb.ensures
+    rw c.from.ensures at c.climb.ensures
