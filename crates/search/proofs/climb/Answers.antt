@@ -4,7 +4,7 @@ use mathlib.Core.List.{List}
 use lib.ListN.{length}
 use Rattle.search.specs.After.{afterwards}
 use Rattle.search.proofs.ClimbLaws.{Climbing, climbs_from, climbs_start, total_starts, falls_behind, no_solution, climb_small, climbs_on, grows, too_far, settled}
-use Rattle.search.proofs.PassLaws.{Passed, pass_begins, passes, asks}
+use Rattle.search.proofs.PassLaws.{Passed, passes, asks}
 use native.Mathlib.Omega.{arith}
 use Rattle.search.proofs.climb.Goals.{else-ends-t, else-x-start, then-ends-t+else-bound-from-2, then-x-start+else-bound-from}
 use Rattle.search.proofs.climb.Goals as goal
@@ -25,13 +25,9 @@ Stepped periods costs n constant before from t ends x =
 stepped_at : (periods costs : List ℕ) (n constant : ℕ) (before : List ℕ) (from t : ℕ) {ends ends' : List ℕ} {x x' : ℕ} → ends ≡ ends' → x ≡ x' → Stepped periods costs n constant before from t ends' x' → Stepped periods costs n constant before from t ends x
 stepped_at periods costs n constant before from t e f b = rw (e, f) b
 
-pub advanced-x-requires : goal.advanced-x-requires
-advanced-x-requires c =
-    record { fit = (c.requires.after.waits.fit, c.requires.after.waits.few, c.requires.after.with_end); x_lt_reach = (omega (arith, c.if-x-start.true, c.requires.after.starts.within), c.requires.after.starts.within) }
-
-pub returns-then-bound-from : goal.returns-then-bound-from
-returns-then-bound-from c =
-    record { found = too_far _ _ _ _ _ _ c.requires.after.waits.fit (climbs_start _ _ _ _ _ _ _ _ c.requires.after c.advanced-x.ensures c.if-x-start.true) _ (omega (arith, c.if-bound-from.true, c.from.ensures)); ends_len_unchanged = c.advanced-x.ensures.same_length }
+pub returns-then-bound-from-clause-found : goal.returns-then-bound-from-clause-found
+returns-then-bound-from-clause-found c =
+    too_far _ _ _ _ _ _ c.requires.after.waits.fit (climbs_start _ _ _ _ _ _ _ _ c.requires.after c.advanced-x.ensures c.if-x-start.true) _ (omega (arith, c.if-bound-from.true, c.from.ensures))
 
 pub passes-init : goal.passes-init
 passes-init c =
@@ -43,31 +39,13 @@ passes-init c =
     ]) in
     (begun.2, begun.0, begun.1)
 
-pub loop-t-init : goal.loop-t-init
-loop-t-init c =
-    (c.passes.invariant.0, c.passes.invariant.1, c.passes.invariant.2, pass_begins _ _ _ (omega arith))
+pub ask-x-requires-clause-behind : goal.ask-x-requires-clause-behind
+ask-x-requires-clause-behind c =
+    falls_behind _ _ _ _ _ _ c.requires.after.waits.fit c.loop-t.invariant.1 _ c.loop-t-test.true _ c.requires.after.free c.if-ends-t.true c.loop-t.invariant.2 (total_starts _ _ _ _ _ _ _ _ c.requires.after) c.requires.bounded
 
-pub offset_bounds-ends-t : goal.offset_bounds-ends-t
-offset_bounds-ends-t c =
-    let in_slots : c.loop-t.t < 8 = omega (arith, c.loop-t-test.true, c.requires.after.waits.few) in
-    record { fits = omega (arith, in_slots) }
-
-pub bounds-ends-t : goal.bounds-ends-t
-bounds-ends-t c =
-    let in_slots : c.loop-t.t < 8 = omega (arith, c.loop-t-test.true, c.requires.after.waits.few) in
-    in_slots
-
-pub ask-x-requires : goal.ask-x-requires
-ask-x-requires c =
-    let in_slots : c.loop-t.t < 8 = omega (arith, c.loop-t-test.true, c.requires.after.waits.few) in
-    let all_ends : length c.loop-t.ends ≡ length c.args.ends.now = c.loop-t.invariant.0 in
-    let room : c.loop-t.t < length c.loop-t.ends = omega (arith, c.loop-t-test.true, c.requires.after.with_end, all_ends) in
-    record { t_lt_slots = (in_slots, omega (arith, c.loop-t-test.true, c.requires.after.waits.fit.loads.with_period), omega (arith, c.loop-t-test.true, c.requires.after.waits.fit.loads.with_cost), omega (arith, c.loop-t-test.true, c.requires.after.free.with_free), room); behind = falls_behind _ _ _ _ _ _ c.requires.after.waits.fit c.loop-t.invariant.1 _ c.loop-t-test.true _ c.requires.after.free c.if-ends-t.true c.loop-t.invariant.2 (total_starts _ _ _ _ _ _ _ _ c.requires.after) c.requires.bounded }
-
-pub returns-then-bound-from-2 : goal.returns-then-bound-from-2
-returns-then-bound-from-2 c =
-    let all_ends : length c.loop-t.ends ≡ length c.args.ends.now = c.loop-t.invariant.0 in
-    record { found = no_solution _ _ _ _ _ _ c.requires.after.waits.fit c.loop-t.invariant.1 _ c.loop-t-test.true _ _ _ c.ask-x.ensures (omega (arith, c.if-bound-from-2.true, c.from-then-ends-t.ensures)); ends_len_unchanged = c.ask-x.ensures.same_length ∙ all_ends }
+pub returns-then-bound-from-2-clause-found : goal.returns-then-bound-from-2-clause-found
+returns-then-bound-from-2-clause-found c =
+    no_solution _ _ _ _ _ _ c.requires.after.waits.fit c.loop-t.invariant.1 _ c.loop-t-test.true _ _ _ c.ask-x.ensures (omega (arith, c.if-bound-from-2.true, c.from-then-ends-t.ensures))
 
 pub loop-t-preserved : goal.loop-t-preserved
 loop-t-preserved c =
@@ -88,15 +66,6 @@ loop-t-preserved c =
     let g = stepped in
     (g.0 ∙ c.loop-t.invariant.0, g.1, g.2, g.3)
 
-pub returns-then-x-before : goal.returns-then-x-before
-returns-then-x-before c =
-    let all_ends : length c.loop-t.ends ≡ length c.args.ends.now = c.loop-t.invariant.0 in
-    record { found = settled _ _ _ _ _ _ c.requires.after.waits.fit c.loop-t.invariant.1 (total_starts _ _ _ _ _ _ _ _ c.requires.after) (λ t a b. c.loop-t.invariant.3.unless_grown (omega (arith, c.if-x-before.true)) t a (omega arith)) _; ends_len_unchanged = all_ends }
-
-pub passes-smaller : goal.passes-smaller
-passes-smaller c =
-    omega (arith, c.loop-t.invariant.2, c.loop-t.invariant.3.grown, c.if-x-before.false)
-
-pub passes-preserved : goal.passes-preserved
-passes-preserved c =
-    (c.loop-t.invariant.0, c.loop-t.invariant.1, c.loop-t.invariant.2)
+pub returns-then-x-before-clause-found : goal.returns-then-x-before-clause-found
+returns-then-x-before-clause-found c =
+    settled _ _ _ _ _ _ c.requires.after.waits.fit c.loop-t.invariant.1 (total_starts _ _ _ _ _ _ _ _ c.requires.after) (λ t a b. c.loop-t.invariant.3.unless_grown (omega (arith, c.if-x-before.true)) t a (omega arith)) _
