@@ -5,7 +5,6 @@ ghost use Rattle.table.specs.Limits.{most};
 ghost use Rattle.outer.specs.Blocked.{ceiling_in, blocked_in};
 
 use crate::interfaces::{WIDTH, held};
-use numbers::longer;
 use table::Table;
 
 // Resource l joins those before it: from its ceiling on, a subsystem waits for the longest that one behind it holds l. From the last
@@ -22,11 +21,9 @@ fn raise_by(
     ensures { blockings.new ≡ padded (blocked_in lines.now n (l + 1)) 0 most n }
 {
     let mut longest: u32 = 0;
-    let mut t = n - 1;
-    while ceiling < t {
-        longest = longer(longest, held(lines, t, l));
-        t -= 1;
-        blockings[t] = longer(blockings[t], longest);
+    for t in (ceiling..n - 1).rev() {
+        longest = longest.max(held(lines, t + 1, l));
+        blockings[t] = blockings[t].max(longest);
     }
 }
 
@@ -42,10 +39,8 @@ pub(crate) fn blockings_of(
     ensures { result ≡ padded (blocked_in lines.now n m) 0 most n }
 {
     let mut blockings = [0u32; Table::MOST];
-    let mut l: usize = 0;
-    while l < m {
+    for l in 0..m {
         raise_by(lines, n, l, ceilings[l], &mut blockings);
-        l += 1;
     }
     blockings
 }

@@ -12,7 +12,6 @@ ghost use Rattle.outer.specs.Sound.{Sound};
 
 use crate::blocking::blockings_of;
 use crate::interfaces::{WIDTH, budget, held, period};
-use numbers::longer;
 use table::Table;
 
 // What the rows of all subsystems share: P(s), Q(s) + X(s), what that leaves free of P(s), and B(s), of each subsystem, and RC(l) of
@@ -32,10 +31,8 @@ pub(crate) fn largest_holding(lines: &[[u32; WIDTH]; Table::MOST], s: usize, m: 
     ensures { result ≡ largest_to (held_at lines.now s) m }
 {
     let mut best: u32 = 0;
-    let mut l: usize = 0;
-    while l < m {
-        best = longer(best, held(lines, s, l));
-        l += 1;
+    for l in 0..m {
+        best = best.max(held(lines, s, l));
     }
     best
 }
@@ -45,12 +42,10 @@ pub(crate) fn outer_ceiling(lines: &[[u32; WIDTH]; Table::MOST], n: usize, l: us
     requires { (1 ≤ n) × (n ≤ most) × (l < most) }
     ensures { result ≡ ceiling_in lines.now n l }
 {
-    let mut s: usize = 0;
-    while s < n {
+    for s in 0..n {
         if 0 < held(lines, s, l) {
             return s;
         }
-        s += 1;
     }
     n - 1
 }
@@ -61,10 +56,8 @@ fn periods_of(lines: &[[u32; WIDTH]; Table::MOST], n: usize) -> [u32; Table::MOS
     ensures { result ≡ padded (period_at lines.now) 0 most n }
 {
     let mut periods = [0u32; Table::MOST];
-    let mut s: usize = 0;
-    while s < n {
+    for s in 0..n {
         periods[s] = period(lines, s);
-        s += 1;
     }
     periods
 }
@@ -75,10 +68,8 @@ fn costs_of(lines: &[[u32; WIDTH]; Table::MOST], n: usize, m: usize) -> [u32; Ta
     ensures { result ≡ padded (cost_of (interfaces_in n m lines.now)) 0 most n }
 {
     let mut costs = [0u32; Table::MOST];
-    let mut s: usize = 0;
-    while s < n {
+    for s in 0..n {
         costs[s] = budget(lines, s) + largest_holding(lines, s, m);
-        s += 1;
     }
     costs
 }
@@ -90,10 +81,8 @@ fn frees_of(periods: [u32; Table::MOST], costs: [u32; Table::MOST], n: usize) ->
     ensures { result ≡ padded (λ t. get_or periods t 0 - get_or costs t 0) 0 most n }
 {
     let mut frees = [0u32; Table::MOST];
-    let mut s: usize = 0;
-    while s < n {
+    for s in 0..n {
         frees[s] = periods[s] - costs[s];
-        s += 1;
     }
     frees
 }
@@ -104,10 +93,8 @@ fn ceilings_of(lines: &[[u32; WIDTH]; Table::MOST], n: usize, m: usize) -> [usiz
     ensures { result ≡ padded (ceiling_in lines.now n) 0 most m }
 {
     let mut ceilings = [0usize; Table::MOST];
-    let mut l: usize = 0;
-    while l < m {
+    for l in 0..m {
         ceilings[l] = outer_ceiling(lines, n, l);
-        l += 1;
     }
     ceilings
 }
@@ -136,7 +123,5 @@ pub fn fitting_of(common: Common, n: usize) -> usize
     requires n_in_bounds { (n ≤ length common.periods) × (n ≤ length common.costs) }
     ensures { Fitting (take n common.periods) (take n common.costs) n result }
 {
-    let periods = common.periods;
-    let costs = common.costs;
-    least::fitting(&periods[..n], &costs[..n], n)
+    least::fitting(&common.periods[..n], &common.costs[..n], n)
 }

@@ -26,18 +26,14 @@ fn with_resource(
     if x == 0 {
         return;
     }
-    let mut j: usize = 0;
-    while j < l {
-        if ceilings[j] == ceilings[l] {
-            if deciding[j] != 0 {
-                if deciding[j] < x {
-                    deciding[j] = 0;
-                    deciding[l] = x;
-                }
-                return;
+    for j in 0..l {
+        if ceilings[j] == ceilings[l] && deciding[j] != 0 {
+            if deciding[j] < x {
+                deciding[j] = 0;
+                deciding[l] = x;
             }
+            return;
         }
-        j += 1;
     }
     deciding[l] = x;
 }
@@ -52,10 +48,8 @@ pub fn leading(
     ensures { result ≡ padded (led (held_at lines.now s) (ceiling_at ceilings.now) (length ceilings.now)) 0 most (length ceilings.now) }
 {
     let mut deciding = [0u32; Table::MOST];
-    let mut l: usize = 0;
-    while l < ceilings.len() {
+    for l in 0..ceilings.len() {
         with_resource(&mut deciding, lines, s, ceilings, l);
-        l += 1;
     }
     deciding
 }

@@ -1,5 +1,4 @@
 -- `outer::blocking::blockings_of` meets its contract. The loop's invariant: the resources before l have joined. Assumes nothing.
-use Prim.Native.Nat.{◌≤◌, ◌-◌}
 use mathlib.Core.Path.{◌≡◌}
 use Rattle.lists.specs.Range.{padded}
 use Rattle.table.specs.Limits.{most}
@@ -7,7 +6,4 @@ use Rattle.outer.specs.Blocked.{blocked_in}
 use Rattle.outer.proofs.blocking.blockings_of.Given as goal
 
 abbrev pub invariant-loop-l : goal.invariant-loop-l
-invariant-loop-l l = (l.l ≤ l.m) × (l.blockings ≡ padded (blocked_in l.lines l.n l.l) 0 most l.n)
-
-abbrev pub decreases-loop-l : goal.decreases-loop-l
-decreases-loop-l l = l.m - l.l
+invariant-loop-l l = (l.blockings ≡ padded (blocked_in l.lines l.n l.l) 0 most l.n)

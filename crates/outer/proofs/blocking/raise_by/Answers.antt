@@ -1,6 +1,6 @@
-use Prim.Native.Nat.{◌-◌, max}
+use Prim.Native.Nat.{◌+◌, ◌-◌, max}
 use native.Mathlib.Omega.{arith}
-use mathlib.Core.Path.{refl, sym, ap₂, ◌∙◌}
+use mathlib.Core.Path.{◌≡◌, refl, sym, ap, ap₂, ◌∙◌}
 use Rattle.lists.proofs.Raised.{behind_last, behind_next, raised_last, raised_next, raised_all}
 use Rattle.table.specs.Limits.{most}
 use Rattle.outer.specs.Blocked.{column_of, blocked_in}
@@ -10,15 +10,17 @@ use Rattle.outer.proofs.blocking.raise_by.Goals as goal
 pub loop-t-init : goal.loop-t-init
 loop-t-init c =
     let f = column_of c.args.lines.now c.args.l in
-    (omega arith, omega arith, sym (behind_last f c.args.n _ (omega arith)), raised_last f c.args.n (blocked_in c.args.lines.now c.args.n c.args.l) most _ (omega arith) c.requires.blockings_value)
+    (omega arith, sym (behind_last f c.args.n _ (omega arith)), raised_last f c.args.n (blocked_in c.args.lines.now c.args.n c.args.l) most _ (omega arith) c.requires.blockings_value)
 
 pub loop-t-preserved : goal.loop-t-preserved
 loop-t-preserved c =
     let f = column_of c.args.lines.now c.args.l in
-    let longest = c.longer-longest.ensures ∙ ap₂ max c.loop-t.invariant.2 c.held.ensures ∙ sym (behind_next f c.args.n (c.loop-t.t - 1) c.loop-t.t (omega arith) c.loop-t.invariant.1) in
-    (omega arith, omega arith, longest, raised_next f c.args.n (blocked_in c.args.lines.now c.args.n c.args.l) most (c.loop-t.t - 1) c.loop-t.t (omega arith) c.loop-t.invariant.1 longest c.loop-t.invariant.3 refl c.longer.ensures)
+    let here : c.loop-t.t - 1 + 1 ≡ c.loop-t.t = omega arith in
+    let held_is = c.held.ensures ∙ ap f here in
+    let longest = c.max-longest.ensures ∙ ap₂ max c.loop-t.invariant.1 held_is ∙ sym (behind_next f c.args.n (c.loop-t.t - 1) c.loop-t.t (omega arith) (omega arith)) in
+    (omega arith, longest, raised_next f c.args.n (blocked_in c.args.lines.now c.args.n c.args.l) most (c.loop-t.t - 1) c.loop-t.t (omega arith) (omega arith) longest c.loop-t.invariant.2 refl c.max.ensures)
 
 pub returns : goal.returns
 returns c =
     let f = column_of c.args.lines.now c.args.l in
-    raised_all f c.args.n (blocked_in c.args.lines.now c.args.n c.args.l) most c.loop-t.t _ c.loop-t.invariant.3 (blocked_more c.args.n c.args.lines.now c.args.l c.loop-t.t (omega (arith, c.loop-t-test.false)))
+    raised_all f c.args.n (blocked_in c.args.lines.now c.args.n c.args.l) most c.loop-t.t _ c.loop-t.invariant.2 (blocked_more c.args.n c.args.lines.now c.args.l c.loop-t.t (omega arith))

@@ -1,6 +1,6 @@
 -- `outer::blocking::raise_by` meets its contract. The loop's invariant: the slots from t on are raised, and the longest is that
 -- behind t. Assumes nothing.
-use Prim.Native.Nat.{◌≤◌, ◌<◌}
+use Prim.Native.Nat.{◌≤◌}
 use mathlib.Core.Path.{◌≡◌}
 use Rattle.lists.specs.Range.{behind, padded}
 use Rattle.lists.proofs.Raised.{raised_from}
@@ -10,7 +10,4 @@ use Rattle.outer.proofs.blocking.raise_by.Given as goal
 
 abbrev pub invariant-loop-t : goal.invariant-loop-t
 invariant-loop-t l =
-    (l.ceiling ≤ l.t) × (l.t < l.n) × (l.longest ≡ behind (column_of l.lines l.l) l.n l.t) × (l.blockings ≡ padded (raised_from (column_of l.lines l.l) l.n (blocked_in l.lines l.n l.l) most l.t) 0 most l.n)
-
-abbrev pub decreases-loop-t : goal.decreases-loop-t
-decreases-loop-t l = l.t
+    (l.ceiling ≤ l.t) × (l.longest ≡ behind (column_of l.lines l.l) l.n l.t) × (l.blockings ≡ padded (raised_from (column_of l.lines l.l) l.n (blocked_in l.lines l.n l.l) most l.t) 0 most l.n)

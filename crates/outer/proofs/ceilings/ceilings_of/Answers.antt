@@ -1,7 +1,5 @@
 use native.Mathlib.Omega.{arith}
-use mathlib.Core.Path.{◌≡◌, sym, ap, ◌∙◌}
-use Rattle.lists.proofs.Turn.{turn_within, turn_less}
-use Rattle.lists.specs.Range.{padded}
+use mathlib.Core.Path.{sym}
 use Rattle.lists.proofs.UpTo.{padded_none}
 use Rattle.table.specs.Limits.{most}
 use Rattle.outer.specs.Blocked.{ceiling_in}
@@ -10,17 +8,8 @@ use Rattle.outer.proofs.ceilings.ceilings_of.Goals as goal
 
 pub loop-l-init : goal.loop-l-init
 loop-l-init c =
-    (omega arith, sym (padded_none (ceiling_in c.args.lines.now c.args.n) 0 most))
-
-pub loop-l-smaller : goal.loop-l-smaller
-loop-l-smaller c =
-    turn_less _ _ c.loop-l-test.true
+    sym (padded_none (ceiling_in c.args.lines.now c.args.n) 0 most)
 
 pub loop-l-preserved : goal.loop-l-preserved
 loop-l-preserved c =
-    (turn_within _ _ c.loop-l-test.true, filled_next (ceiling_in c.args.lines.now c.args.n) _ c.loop-l.l _ c.loop-l.invariant.1 c.outer_ceiling.ensures (omega arith))
-
-pub returns : goal.returns
-returns c =
-    let e : c.loop-l.l ≡ c.args.m = omega arith in
-    c.loop-l.invariant.1 ∙ ap (padded (ceiling_in c.args.lines.now c.args.n) 0 most) e
+    filled_next (ceiling_in c.args.lines.now c.args.n) _ c.loop-l.l _ c.loop-l.invariant c.outer_ceiling.ensures (omega arith)

@@ -1,5 +1,4 @@
 -- `outer::ceilings::ceilings_of` meets its contract. The loop's invariant: the array is filled up to l. Assumes nothing.
-use Prim.Native.Nat.{◌≤◌, ◌-◌}
 use mathlib.Core.Path.{◌≡◌}
 use Rattle.lists.specs.Range.{padded}
 use Rattle.table.specs.Limits.{most}
@@ -7,7 +6,4 @@ use Rattle.outer.specs.Blocked.{ceiling_in}
 use Rattle.outer.proofs.ceilings.ceilings_of.Given as goal
 
 abbrev pub invariant-loop-l : goal.invariant-loop-l
-invariant-loop-l l = (l.l ≤ l.m) × (l.ceilings ≡ padded (ceiling_in l.lines l.n) 0 most l.l)
-
-abbrev pub decreases-loop-l : goal.decreases-loop-l
-decreases-loop-l l = l.m - l.l
+invariant-loop-l l = (l.ceilings ≡ padded (ceiling_in l.lines l.n) 0 most l.l)

@@ -1,8 +1,6 @@
 use Prim.Native.Nat.{◌+◌, ◌≤◌}
 use native.Mathlib.Omega.{arith}
-use mathlib.Core.Path.{◌≡◌, sym, ap, ap₂, ◌∙◌}
-use Rattle.lists.proofs.Turn.{turn_within, turn_less}
-use Rattle.lists.specs.Range.{padded}
+use mathlib.Core.Path.{◌≡◌, sym, ap₂, ◌∙◌}
 use Rattle.lists.proofs.UpTo.{padded_none}
 use Rattle.table.specs.Limits.{most}
 use Rattle.outer.specs.Interfaces.{interfaces_in}
@@ -12,7 +10,7 @@ use Rattle.outer.proofs.ceilings.costs_of.Goals as goal
 
 pub loop-s-init : goal.loop-s-init
 loop-s-init c =
-    (omega arith, sym (padded_none (cost_of (interfaces_in c.args.n c.args.m c.args.lines.now)) 0 most))
+    sym (padded_none (cost_of (interfaces_in c.args.n c.args.m c.args.lines.now)) 0 most)
 
 pub budget-requires : goal.budget-requires
 budget-requires c =
@@ -40,18 +38,9 @@ bounds-costs-s c =
     let few : c.args.n ≤ most = few_of c.args.n c.args.m c.args.lines.now c.requires in
     omega (arith, few)
 
-pub loop-s-smaller : goal.loop-s-smaller
-loop-s-smaller c =
-    turn_less _ _ c.loop-s-test.true
-
 pub loop-s-preserved : goal.loop-s-preserved
 loop-s-preserved c =
     let stored_is : c.budget.result + c.largest_holding.result ≡ cost_of (interfaces_in c.args.n c.args.m c.args.lines.now) c.loop-s.s = ap₂ ◌+◌ c.budget.ensures c.largest_holding.ensures ∙
     sym (cost_of_slot c.args.n c.args.m c.args.lines.now c.loop-s.s c.loop-s-test.true) in
     let few : c.args.n ≤ most = few_of c.args.n c.args.m c.args.lines.now c.requires in
-    (turn_within _ _ c.loop-s-test.true, filled_next (cost_of (interfaces_in c.args.n c.args.m c.args.lines.now)) _ c.loop-s.s _ c.loop-s.invariant.1 (stored_is) (omega (arith, few)))
-
-pub returns : goal.returns
-returns c =
-    let e : c.loop-s.s ≡ c.args.n = omega arith in
-    c.loop-s.invariant.1 ∙ ap (padded (cost_of (interfaces_in c.args.n c.args.m c.args.lines.now)) 0 most) e
+    filled_next (cost_of (interfaces_in c.args.n c.args.m c.args.lines.now)) _ c.loop-s.s _ c.loop-s.invariant stored_is (omega (arith, few))

@@ -1,5 +1,4 @@
 -- `outer::ceilings::costs_of` meets its contract. The loop's invariant: the array is filled up to s. Assumes nothing.
-use Prim.Native.Nat.{◌≤◌, ◌-◌}
 use mathlib.Core.Path.{◌≡◌}
 use Rattle.lists.specs.Range.{padded}
 use Rattle.table.specs.Limits.{most}
@@ -8,7 +7,4 @@ use Rattle.outer.specs.Parts.{cost_of}
 use Rattle.outer.proofs.ceilings.costs_of.Given as goal
 
 abbrev pub invariant-loop-s : goal.invariant-loop-s
-invariant-loop-s l = (l.s ≤ l.n) × (l.costs ≡ padded (cost_of (interfaces_in l.n l.m l.lines)) 0 most l.s)
-
-abbrev pub decreases-loop-s : goal.decreases-loop-s
-decreases-loop-s l = l.n - l.s
+invariant-loop-s l = (l.costs ≡ padded (cost_of (interfaces_in l.n l.m l.lines)) 0 most l.s)

@@ -1,8 +1,6 @@
 -- `outer::leading::leading` meets its contract. The loop's invariant: the array is filled up to l, as if there were no resources
 -- behind. Assumes nothing.
-use Prim.Native.Nat.{◌≤◌, ◌-◌}
 use mathlib.Core.Path.{◌≡◌}
-use lib.ListN.{length}
 use Rattle.lists.specs.Range.{padded}
 use Rattle.table.specs.Limits.{most}
 use Rattle.outer.specs.Interfaces.{held_at}
@@ -10,7 +8,4 @@ use Rattle.outer.specs.Leading.{ceiling_at, led}
 use Rattle.outer.proofs.leading.leading.Given as goal
 
 abbrev pub invariant-loop-l : goal.invariant-loop-l
-invariant-loop-l l = (l.l ≤ length l.ceilings) × (l.deciding ≡ padded (led (held_at l.lines l.s) (ceiling_at l.ceilings) l.l) 0 most l.l)
-
-abbrev pub decreases-loop-l : goal.decreases-loop-l
-decreases-loop-l l = length l.ceilings - l.l
+invariant-loop-l l = (l.deciding ≡ padded (led (held_at l.lines l.s) (ceiling_at l.ceilings) l.l) 0 most l.l)

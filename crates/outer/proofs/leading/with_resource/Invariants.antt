@@ -1,6 +1,5 @@
 -- `outer::leading::with_resource` meets its contract. The loop's invariant: the array is as it was, and none of the resources
 -- passed so far decides at the ceiling of l. Assumes nothing.
-use Prim.Native.Nat.{◌≤◌, ◌-◌}
 use mathlib.Core.Path.{◌≡◌}
 use Rattle.lists.specs.Range.{padded}
 use Rattle.table.specs.Limits.{most}
@@ -10,7 +9,4 @@ use Rattle.outer.proofs.EnteringLaws.{NoRival}
 use Rattle.outer.proofs.leading.with_resource.Given as goal
 
 abbrev pub invariant-loop-j : goal.invariant-loop-j
-invariant-loop-j l = (l.j ≤ l.l) × (l.deciding ≡ padded (led (held_at l.lines l.s) (ceiling_at l.ceilings) l.l) 0 most l.l) × NoRival (ceiling_at l.ceilings) l.l l.deciding l.j
-
-abbrev pub decreases-loop-j : goal.decreases-loop-j
-decreases-loop-j l = l.l - l.j
+invariant-loop-j l = (l.deciding ≡ padded (led (held_at l.lines l.s) (ceiling_at l.ceilings) l.l) 0 most l.l) × NoRival (ceiling_at l.ceilings) l.l l.deciding l.j
