@@ -7,6 +7,7 @@ use mathlib.Core.Path.{◌≡◌, refl, sym, ap, ap₂, ◌∙◌}
 use mathlib.Core.List.{List, [], ◌∷◌, ◌++◌, append_assoc, append-nil, flat_map}
 use lib.ListN.{length, take, drop, set, length-append, length-drop, drop_of_length-le}
 use lib.Seq.{take_at, drop_at, drop-drop}
+use Rattle.std.specs.Int.{w32, to_be_bytes}
 use Rattle.lists.specs.Range.{up_to}
 use Rattle.stored.specs.Numbers.{big_endian, number_size}
 use Rattle.stored.specs.Field.{start_size, field, header_length, version}
@@ -86,6 +87,15 @@ number_is_put buf x h =
     record {
       counted = rw big_endian_four refl;
       left = rw big_endian_four (four_stores buf _ _ _ _ h);
+    }
+
+-- The bytes of a number, as they are copied to the start of a buffer.
+pub number_copied : (buf bytes : List ℕ) (x : ℕ) → bytes ≡ to_be_bytes w32 x → IsPut (number_bytes x) buf (bytes ++ drop number_size buf) number_size
+unfolding number_bytes written
+number_copied buf bytes x e =
+    record {
+      counted = rw big_endian_four refl;
+      left = rw (e, big_endian_four) refl;
     }
 
 one_store : (buf : List ℕ) (a : ℕ) → 1 ≤ length buf → set buf 0 a ≡ a ∷ drop 1 buf
