@@ -42,11 +42,10 @@ pub fn judge(rest: &[u8], tag: u8, due: usize) -> FieldAnswer
     if rest.len() < START {
         return FieldAnswer::Faulty(Fault::Short);
     }
-    let found = rest[0];
-    let len = stated_length(rest);
-    if found != tag {
+    if rest[0] != tag {
         return FieldAnswer::Faulty(Fault::OtherTag);
     }
+    let len = stated_length(rest);
     if len != due {
         return FieldAnswer::Faulty(Fault::OtherLength);
     }

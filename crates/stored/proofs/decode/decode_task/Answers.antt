@@ -1,9 +1,8 @@
 use mathlib.Core.Path.{◌∙◌}
 use lib.ListN.{length-set}
-use native.Mathlib.Omega.{arith}
 use Prim.Native.Nat.{◌+◌}
 use Rattle.stored.specs.Decode.{decoded_access}
-use Rattle.stored.proofs.Decoding.{started_line, line_begins, one_access_more, line_ends}
+use Rattle.stored.proofs.Decoding.{started_line, line_begins, one_access_more}
 use Rattle.stored.proofs.decode.decode_task.Goals as goal
 
 pub loop-l-init : goal.loop-l-init
