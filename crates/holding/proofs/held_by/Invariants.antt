@@ -8,4 +8,4 @@ use Rattle.holding.specs.Held.{HeldUpTo}
 use Rattle.holding.proofs.held_by.Given as goal
 
 abbrev pub invariant-loop-i : goal.invariant-loop-i
-invariant-loop-i l = (l.before ≡ sum_to (work_in l.block) l.i) × (l.before ≤ l.i * 4294967296) × HeldUpTo l.block l.m l.i 0 l.each l.above l.largest
+invariant-loop-i l = (l.before ≡ sum_to (work_in l.part.block.now) l.i) × (l.before ≤ l.i * 4294967296) × HeldUpTo l.part.block.now l.part.m l.i 0 l.each l.above l.largest

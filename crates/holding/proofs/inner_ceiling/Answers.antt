@@ -11,12 +11,12 @@ loop-i-init c =
 
 pub returns-then-access-gt0 : goal.returns-then-access-gt0
 returns-then-access-gt0 c =
-    ceiling_here c.args.block.now c.args.l c.args.m c.requires.listed c.loop-i.i _ (omega arith) c.access.ensures c.if-access-gt0.true c.loop-i.invariant
+    ceiling_here c.args.part.now.block.now c.args.l c.args.part.now.m c.requires c.loop-i.i _ (omega arith) c.access.ensures c.if-access-gt0.true c.loop-i.invariant
 
 pub loop-i-preserved : goal.loop-i-preserved
 loop-i-preserved c =
-    ceiling_next c.args.block.now c.args.l c.loop-i.i _ (omega arith) c.access.ensures c.if-access-gt0.false c.loop-i.invariant
+    ceiling_next c.args.part.now.block.now c.args.l c.loop-i.i _ (omega arith) c.access.ensures c.if-access-gt0.false c.loop-i.invariant
 
 pub returns : goal.returns
 returns c =
-    ap (λ (n : ℕ). n - 1) c.count-n.ensures ∙ ceiling_over c.args.block.now c.args.l c.args.m c.requires.listed c.loop-i.i (omega arith) c.loop-i.invariant
+    ap (λ (n : ℕ). n - 1) c.count-n.ensures ∙ ceiling_over c.args.part.now.block.now c.args.l c.args.part.now.m c.requires c.loop-i.i (omega arith) c.loop-i.invariant

@@ -3,4 +3,4 @@ use Rattle.holding.proofs.HoldingLaws.{CeilingFrom}
 use Rattle.holding.proofs.inner_ceiling.Given as goal
 
 abbrev pub invariant-loop-i : goal.invariant-loop-i
-invariant-loop-i l = CeilingFrom l.block l.l l.i
+invariant-loop-i l = CeilingFrom l.part.block.now l.l l.i

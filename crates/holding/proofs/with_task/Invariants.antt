@@ -3,4 +3,4 @@ use Rattle.holding.specs.Held.{HeldUpTo}
 use Rattle.holding.proofs.with_task.Given as goal
 
 abbrev pub invariant-loop-l : goal.invariant-loop-l
-invariant-loop-l l = HeldUpTo l.block l.m l.i l.l l.each l.above l.largest
+invariant-loop-l l = HeldUpTo l.part.block.now l.part.m l.i l.l l.each l.above l.largest
