@@ -4,32 +4,29 @@
 ghost use Rattle.std.specs.Prelude.{◌≡◌, [], ◌≤◌, length, get_or};
 ghost use Rattle.table.specs.Limits.{most};
 ghost use Rattle.table.specs.Grid.{HasLines, HasBlocks};
-ghost use Rattle.stored.specs.Read.{refused_at, whole_unless, header_in, head_at, task_place, subsystem_place, tasks_refusal, refusal_from};
+ghost use Rattle.stored.specs.Read.{header_in, head_at, task_place, subsystem_place, tasks_refusal, refusal_from};
 ghost use Rattle.stored.specs.HeadLine.{HeadLine};
-ghost use Rattle.reader.specs.Reader.{IsPart, IsBody, IsHead};
+ghost use Rattle.reader.specs.Reader.{placed, IsPart, IsBody, IsHead};
 
-use crate::{Head, Part};
+use crate::Head;
 use stored::decode::{TASK_START, decode_subsystem, decode_task};
 use stored::fields::{
     HEADER_LENGTH, START, SUBSYSTEM_LENGTH, TASK, judge, judge_header, judge_subsystem, value,
 };
 use stored::number::NUMBER;
-use stored::{Fault, FieldAnswer, ReadAnswer};
-use table::Table;
-use table::grid::{BLOCK, LINE, count};
+use stored::{Fault, FieldAnswer, Misread, ReadAnswer};
+use table::grid::{Block, Grid, count};
 
-// The read's answer where the field at an offset was judged so.
-fn answer_at(answer: FieldAnswer, at: usize) -> ReadAnswer
-    ensures { result ≡ whole_unless (refused_at at answer) }
+// The judge's answer on the field at an offset: where the field is faulty, the file is refused there.
+fn answer_at(answer: FieldAnswer, at: usize) -> Result<usize, Misread>
+    ensures { result ≡ placed at answer }
 {
-    match answer {
-        FieldAnswer::Sound(_) => ReadAnswer::Whole,
-        FieldAnswer::Faulty(fault) => ReadAnswer::Refused(fault, at),
-    }
+    answer.map_err(|fault| Misread { fault, offset: at })
 }
 
-// Reads the n tasks of the subsystem whose field stands at `at` into the block; the block's own line is that field's.
-fn read_tasks(file: &[u8], at: usize, n: usize, m: usize, block: &mut [[u32; LINE]; BLOCK]) -> Part
+// Reads the n tasks of the subsystem whose field stands at `at` into the block; the block's own line is that field's. Gives
+// the offset behind them.
+fn read_tasks(file: &[u8], at: usize, n: usize, m: usize, block: &mut Block) -> Result<usize, Misread>
     requires m_le_most { (m ≤ most) × ((n ≤ most) × (n ≡ (head_at file.now at).count)) }
     requires at_in_bounds { (task_place m at 0 ≤ length file.now) × HasLines block.old }
     requires head_line { HeadLine (head_at file.now at) (get_or block.old 0 []) }
@@ -38,46 +35,32 @@ fn read_tasks(file: &[u8], at: usize, n: usize, m: usize, block: &mut [[u32; LIN
     let mut place = at + (START + SUBSYSTEM_LENGTH);
     for i in 0..n {
         let rest = &file[place..];
-        let answer = judge(rest, TASK, TASK_START + NUMBER * m);
-        let FieldAnswer::Sound(len) = answer else {
-            return Part {
-                answer: answer_at(answer, place),
-                next: place,
-            };
+        let answer = answer_at(judge(rest, TASK, TASK_START + NUMBER * m), place);
+        let Ok(len) = answer else {
+            return answer;
         };
         decode_task(value(rest, len), m, &mut block[i + 1]);
         place += START + len;
     }
-    Part {
-        answer: ReadAnswer::Whole,
-        next: place,
-    }
+    Ok(place)
 }
 
-// Reads the subsystem whose field stands at `at`, with its tasks, into the block.
-fn read_subsystem(file: &[u8], at: usize, m: usize, block: &mut [[u32; LINE]; BLOCK]) -> Part
+// Reads the subsystem whose field stands at `at`, with its tasks, into the block. Gives the offset behind them.
+fn read_subsystem(file: &[u8], at: usize, m: usize, block: &mut Block) -> Result<usize, Misread>
     requires { (m ≤ most) × ((at ≤ length file.now) × HasLines block.old) }
     ensures { IsPart (refusal_from file.now m at) file.now m at block.new result }
 {
     let rest = &file[at..];
-    let answer = judge_subsystem(rest);
-    let FieldAnswer::Sound(len) = answer else {
-        return Part {
-            answer: answer_at(answer, at),
-            next: at,
-        };
+    let answer = answer_at(judge_subsystem(rest), at);
+    let Ok(len) = answer else {
+        return answer;
     };
     decode_subsystem(value(rest, len), &mut block[0]);
     read_tasks(file, at, count(block), m, block)
 }
 
 // Reads the n subsystems behind the header, which gives the two counts, into the grid.
-fn read_subsystems(
-    file: &[u8],
-    n: usize,
-    m: usize,
-    grid: &mut [[[u32; LINE]; BLOCK]; Table::MOST],
-) -> ReadAnswer
+fn read_subsystems(file: &[u8], n: usize, m: usize, grid: &mut Grid) -> ReadAnswer
     requires n_le_most { (n ≤ most) × (n ≡ (header_in file.now).count) }
     requires m_le_most { (m ≤ most) × (m ≡ (header_in file.now).resources) }
     requires m_in_bounds { (subsystem_place file.now m 0 ≤ length file.now) × HasBlocks grid.old }
@@ -85,39 +68,30 @@ fn read_subsystems(
 {
     let mut at = START + HEADER_LENGTH;
     for s in 0..n {
-        let part = read_subsystem(file, at, m, &mut grid[s]);
-        let ReadAnswer::Whole = part.answer else {
-            return part.answer;
-        };
-        at = part.next;
+        at = read_subsystem(file, at, m, &mut grid[s])?;
     }
     if at < file.len() {
-        return ReadAnswer::Refused(Fault::LeftOver, at);
+        return Err(Misread {
+            fault: Fault::LeftOver,
+            offset: at,
+        });
     }
-    ReadAnswer::Whole
+    Ok(())
 }
 
-// Reads a table from any bytes into the grid, whatever the grid held. Refused, with number and offset, is whatever is not
-// exactly the file of a table with counts in range; what the grid holds then, and what the counts are, means nothing.
-pub fn read_grid(file: &[u8], grid: &mut [[[u32; LINE]; BLOCK]; Table::MOST]) -> Head
+// Reads a table from any bytes into the grid, whatever the grid held, and gives its N and M. Refused, with number and offset,
+// is whatever is not exactly the file of a table with counts in range; what the grid holds then means nothing.
+pub fn read_grid(file: &[u8], grid: &mut Grid) -> Result<Head, Misread>
     requires { HasBlocks grid.old }
     ensures { IsHead file.now grid.new result }
 {
     let rest = &file[0..];
-    let answer = judge_header(rest);
-    let FieldAnswer::Sound(len) = answer else {
-        return Head {
-            answer: answer_at(answer, 0),
-            count: 0,
-            resources: 0,
-        };
-    };
+    let len = answer_at(judge_header(rest), 0)?;
     let header = value(rest, len);
-    let n = header[1];
-    let m = header[2];
-    Head {
-        answer: read_subsystems(file, usize::from(n), usize::from(m), grid),
-        count: n,
-        resources: m,
-    }
+    let head = Head {
+        count: header[1],
+        resources: header[2],
+    };
+    read_subsystems(file, usize::from(head.count), usize::from(head.resources), grid)?;
+    Ok(head)
 }

@@ -7,12 +7,12 @@ ghost use Rattle.reader.specs.Taken.{task_with, subsystem_with, table_with, Bloc
 ghost use Rattle.stored.specs.Read.{read_of};
 
 use crate::read::read_grid;
-use stored::{ReadAnswer, Reading};
-use table::grid::{BLOCK, LINE};
+use stored::Reading;
+use table::grid::{BLOCK, Block, Grid, LINE};
 use table::{Subsystem, Table, Task, grid};
 
 // The task at index i of a block, with its access to each of m resources.
-fn task_of(block: &[[u32; LINE]; BLOCK], i: usize, m: usize) -> Task
+fn task_of(block: &Block, i: usize, m: usize) -> Task
     requires { (i < most) × (m ≤ most) }
     ensures { result ≡ task_with (task_in m block.now i) }
 {
@@ -29,7 +29,7 @@ fn task_of(block: &[[u32; LINE]; BLOCK], i: usize, m: usize) -> Task
 }
 
 // The subsystem of a block.
-fn subsystem_of(block: &[[u32; LINE]; BLOCK], m: usize) -> Subsystem
+fn subsystem_of(block: &Block, m: usize) -> Subsystem
     requires { (count_in block.now ≤ most) × (m ≤ most) }
     ensures { result ≡ subsystem_with (subsystem_in m block.now) }
 {
@@ -47,7 +47,7 @@ fn subsystem_of(block: &[[u32; LINE]; BLOCK], m: usize) -> Subsystem
 }
 
 // The table of a grid with n subsystems and m resources.
-pub fn table_of(grid: &[[[u32; LINE]; BLOCK]; Table::MOST], n: u8, m: u8) -> Table
+pub fn table_of(grid: &Grid, n: u8, m: u8) -> Table
     requires { (n ≤ most) × ((m ≤ most) × BlocksFit n grid.now) }
     ensures { result ≡ table_with (system_in n m grid.now) }
 {
@@ -68,15 +68,14 @@ pub fn read_table(file: &[u8]) -> Reading
     ensures { result ≡ read_of file.now }
 {
     let mut grid = [[[0u32; LINE]; BLOCK]; Table::MOST];
-    let head = read_grid(file, &mut grid);
-    let ReadAnswer::Whole = head.answer else {
-        return Reading {
-            answer: head.answer,
+    match read_grid(file, &mut grid) {
+        Ok(head) => Reading {
+            answer: Ok(()),
+            table: table_of(&grid, head.count, head.resources),
+        },
+        Err(misread) => Reading {
+            answer: Err(misread),
             table: Table::zeros(),
-        };
-    };
-    Reading {
-        answer: ReadAnswer::Whole,
-        table: table_of(&grid, head.count, head.resources),
+        },
     }
 }

@@ -4,8 +4,7 @@ use Rattle.table.specs.Limits.{most}
 use Rattle.rules.specs.Rules.{count_out}
 use Rattle.stored.specs.declared.Fault.{Fault}
 use Rattle.stored.specs.declared.Fault.TheVariants.{Short, OtherTag, OtherLength, OutOfRange, LeftOver}
-use Rattle.stored.specs.declared.FieldAnswer.{FieldAnswer}
-use Rattle.stored.specs.declared.FieldAnswer.TheVariants.{Sound, Faulty}
+use Rattle.stored.specs.Answers.{FieldAnswer, sound, faulty}
 use Rattle.stored.specs.Field.{start_size, field_size, tag_of, stated_length, value_of, version, header_tag, header_length, subsystem_tag, subsystem_length, count_at, task_tag, task_length}
 
 -- Document 01's number of each fault.
@@ -18,7 +17,7 @@ fault_number LeftOver = 15
 
 -- The fault where the test holds, or else what comes after it.
 abbrev pub refuse_if : Bool → Fault → FieldAnswer → FieldAnswer
-refuse_if true f later = Faulty f
+refuse_if true f later = faulty f
 refuse_if false f later = later
 
 -- The judgement of the rest of a file where a field with this tag and this length is due: 11 for tag and length, 12, 13,
@@ -30,7 +29,7 @@ judge_field tag due in_range rest =
     (refuse_if (not (eqb (stated_length rest) due)) OtherLength
     (refuse_if (ltb (length rest) (field_size (stated_length rest))) Short
     (refuse_if (not (in_range (value_of due rest))) OutOfRange
-    (Sound due)))))
+    (sound due)))))
 
 -- What 14 judges: version, N and M of a header; n of a subsystem; nothing of a task. Counts are judged as rule 1 does.
 unfoldable pub header_in_range : List ℕ → Bool

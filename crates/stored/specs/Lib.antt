@@ -1,6 +1,7 @@
--- Numbers as bytes, fields, a decoded line, the file of a system, what a read gives and what a write leaves.
+-- Numbers as bytes, fields, the answers, a decoded line, the file of a system, what a read gives and what a write leaves.
 pub mod Numbers
 pub mod Field
+pub mod Answers
 pub mod Judge
 pub mod Decode
 pub mod HeadLine

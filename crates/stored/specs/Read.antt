@@ -1,6 +1,6 @@
 -- What a read gives, for every list of bytes: the first refusal in the order of the fields with its place, or the table.
 -- Indices count from 0 here; document 01 counts from 1. Assumes nothing.
-use Rattle.std.specs.Prelude.{ℕ, zero, suc, ◌+◌, ◌*◌, cond, List, ltb, length, drop}
+use Rattle.std.specs.Prelude.{ℕ, zero, suc, ◌+◌, ◌*◌, cond, List, ltb, length, drop, Ok, Err}
 use Rattle.std.proofs.Math.Option.{Option, none, some}
 use Rattle.lists.specs.Range.{or_else, first_of, padded}
 use Rattle.table.specs.Limits.{most}
@@ -10,20 +10,17 @@ use Rattle.table.specs.declared.Subsystem.{Subsystem}
 use Rattle.table.specs.declared.Table.{Table}
 use Rattle.stored.specs.declared.Fault.{Fault}
 use Rattle.stored.specs.declared.Fault.TheVariants.{LeftOver}
-use Rattle.stored.specs.declared.FieldAnswer.{FieldAnswer}
-use Rattle.stored.specs.declared.FieldAnswer.TheVariants.{Sound, Faulty}
-use Rattle.stored.specs.declared.ReadAnswer.{ReadAnswer}
-use Rattle.stored.specs.declared.ReadAnswer.TheVariants.{Whole, Refused}
 use Rattle.stored.specs.declared.FileRefusal.{FileRefusal}
 use Rattle.stored.specs.declared.Reading.{Reading}
+use Rattle.stored.specs.Answers.{FieldAnswer, ReadAnswer, whole, refused}
 use Rattle.stored.specs.Field.{field_size, value_of, header_length, subsystem_length, task_length}
 use Rattle.stored.specs.Judge.{fault_number, judge_header, judge_subsystem, judge_task}
 use Rattle.stored.specs.Decode.{decoded_header, decoded_subsystem, decoded_task}
 
 -- Document 01's number and place of a read's answer; 0 at 0 where nothing is refused.
 abbrev pub file_refusal : ReadAnswer → FileRefusal
-file_refusal Whole = record { number = 0; offset = 0 }
-file_refusal (Refused f at) = record { number = fault_number f; offset = at }
+file_refusal (Ok _) = record { number = 0; offset = 0 }
+file_refusal (Err r) = record { number = fault_number r.fault; offset = r.offset }
 
 ------------------------------------------------------------------------
 -- Where the fields stand, by what the fields before them say
@@ -58,8 +55,8 @@ Refusal = Fault × ℕ
 
 -- The refusal of a field that was judged so, at its offset.
 abbrev pub refused_at : ℕ → FieldAnswer → Option Refusal
-refused_at at (Sound n) = none
-refused_at at (Faulty f) = some (f, at)
+refused_at at (Ok n) = none
+refused_at at (Err f) = some (f, at)
 
 -- The refusal of task i of the subsystem at an offset.
 unfoldable pub task_refusal : List ℕ → ℕ → ℕ → ℕ → Option Refusal
@@ -127,8 +124,8 @@ table_in file = table_to file (header_in file).count
 -- What a read gives
 
 abbrev pub whole_unless : Option Refusal → ReadAnswer
-whole_unless none = Whole
-whole_unless (some r) = Refused r.0 r.1
+whole_unless none = whole
+whole_unless (some r) = refused r.0 r.1
 
 -- The table of zeros where something is refused.
 abbrev pub zeros_if : Option Refusal → Table → Table

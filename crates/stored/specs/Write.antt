@@ -1,20 +1,20 @@
 -- What a write answers and what it leaves in the buffer, for every system and every buffer. Assumes nothing.
-use Rattle.std.specs.Prelude.{ℕ, ◌≡◌, cond, List, ◌++◌, ltb, length, drop}
+use Rattle.std.specs.Prelude.{ℕ, ◌≡◌, cond, List, ◌++◌, ltb, length, drop, Ok, Err}
 use Rattle.table.specs.Meaning.{System}
 use Rattle.rules.specs.declared.Rule.TheVariants.{Counts}
 use Rattle.rules.specs.declared.Judged.{Judged}
 use Rattle.rules.specs.declared.Judged.TheVariants.{Admitted, Refused}
 use Rattle.rules.specs.Refusal.{number_of, Refusal}
 use Rattle.rules.specs.Rules.{counts_judged}
-use Rattle.stored.specs.declared.WriteAnswer.{WriteAnswer}
-use Rattle.stored.specs.declared.WriteAnswer.TheVariants.{Written, Uncounted, NoRoom}
+use Rattle.stored.specs.declared.Unwritten.TheVariants.{Uncounted, NoRoom}
+use Rattle.stored.specs.Answers.{WriteAnswer, stands, uncounted, no_room}
 use Rattle.stored.specs.File.{file_of}
 
 -- Document 01's number and place of a write's answer; 0 at 0 0 where nothing is refused.
 abbrev pub write_refusal : WriteAnswer → Refusal
-write_refusal (Written n) = record { number = 0; subsystem = 0; task = 0 }
-write_refusal (Uncounted p) = record { number = number_of Counts; subsystem = p.subsystem; task = p.task }
-write_refusal NoRoom = record { number = 21; subsystem = 0; task = 0 }
+write_refusal (Ok n) = record { number = 0; subsystem = 0; task = 0 }
+write_refusal (Err (Uncounted p)) = record { number = number_of Counts; subsystem = p.subsystem; task = p.task }
+write_refusal (Err NoRoom) = record { number = 21; subsystem = 0; task = 0 }
 
 -- The bytes at the start of a buffer, and the rest of it as it was.
 unfoldable pub written : List ℕ → List ℕ → List ℕ
@@ -27,17 +27,16 @@ pub record IsPut (bytes before after : List ℕ) (count : ℕ) : Type 0 where
 
 -- Refused with 1, then with 21 exactly when the buffer is shorter than the file.
 abbrev pub answer_for : Judged → List ℕ → ℕ → WriteAnswer
-answer_for (Refused k p) file room = Uncounted p
-answer_for Admitted file room = cond (ltb room (length file)) NoRoom (Written (length file))
+answer_for (Refused k p) file room = uncounted p
+answer_for Admitted file room = cond (ltb room (length file)) no_room (stands (length file))
 
 unfoldable pub write_of : System → ℕ → WriteAnswer
 write_of sys room = answer_for (counts_judged sys) (file_of sys) room
 
 -- What the buffer holds then: where the answer refuses, what it held.
 abbrev pub left_by : WriteAnswer → List ℕ → List ℕ → List ℕ
-left_by (Written n) file buf = written file buf
-left_by (Uncounted p) file buf = buf
-left_by NoRoom file buf = buf
+left_by (Ok n) file buf = written file buf
+left_by (Err why) file buf = buf
 
 unfoldable pub buffer_after : System → List ℕ → List ℕ
 buffer_after sys buf = left_by (write_of sys (length buf)) (file_of sys) buf

@@ -40,19 +40,19 @@ pub fn judge(rest: &[u8], tag: u8, due: usize) -> FieldAnswer
     ensures { result ≡ judge_field tag due any_value rest.now }
 {
     if rest.len() < START {
-        return FieldAnswer::Faulty(Fault::Short);
+        return Err(Fault::Short);
     }
     if rest[0] != tag {
-        return FieldAnswer::Faulty(Fault::OtherTag);
+        return Err(Fault::OtherTag);
     }
     let len = stated_length(rest);
     if len != due {
-        return FieldAnswer::Faulty(Fault::OtherLength);
+        return Err(Fault::OtherLength);
     }
     if rest.len() < START + len {
-        return FieldAnswer::Faulty(Fault::Short);
+        return Err(Fault::Short);
     }
-    FieldAnswer::Sound(len)
+    Ok(len)
 }
 
 // The field walk: the value of the field at the start of `rest`, as a part of it.
@@ -78,13 +78,13 @@ pub fn judge_header(rest: &[u8]) -> FieldAnswer
     ensures { result ≡ judge_header rest.now }
 {
     let answer = judge(rest, HEADER, HEADER_LENGTH);
-    let FieldAnswer::Sound(len) = answer else {
+    let Ok(len) = answer else {
         return answer;
     };
     if header_in_range(value(rest, len)) {
         return answer;
     }
-    FieldAnswer::Faulty(Fault::OutOfRange)
+    Err(Fault::OutOfRange)
 }
 
 // The judgement of `rest` where a subsystem is due.
@@ -92,12 +92,12 @@ pub fn judge_subsystem(rest: &[u8]) -> FieldAnswer
     ensures { result ≡ judge_subsystem rest.now }
 {
     let answer = judge(rest, SUBSYSTEM, SUBSYSTEM_LENGTH);
-    let FieldAnswer::Sound(len) = answer else {
+    let Ok(len) = answer else {
         return answer;
     };
     let counted = value(rest, len);
     if count_out(counted[COUNT_AT]) {
-        return FieldAnswer::Faulty(Fault::OutOfRange);
+        return Err(Fault::OutOfRange);
     }
     answer
 }

@@ -34,21 +34,19 @@ pub enum Fault {
     LeftOver,
 }
 
-// The judge's answer on the field at the start of the rest of a file.
+// The judge's answer on the field at the start of the rest of a file: the field that is due, with a value of so many bytes, or
+// what is wrong.
+pub type FieldAnswer = Result<usize, Fault>;
+
+// Why a file is refused: what is wrong with it, and at which offset.
 #[derive(Clone, Copy)]
-pub enum FieldAnswer {
-    // The field that is due, with a value of so many bytes.
-    Sound(usize),
-    // Anything else.
-    Faulty(Fault),
+pub struct Misread {
+    pub fault: Fault,
+    pub offset: usize,
 }
 
-// A read's answer: the file is a table, or what is wrong with it and at which offset.
-#[derive(Clone, Copy)]
-pub enum ReadAnswer {
-    Whole,
-    Refused(Fault, usize),
-}
+// A read's answer: the file is a table, or why it is none.
+pub type ReadAnswer = Result<(), Misread>;
 
 // What a read gives: its answer, and the table, which is all zeros where the file is refused.
 #[derive(Clone, Copy)]
@@ -64,27 +62,30 @@ pub struct FileRefusal {
     pub offset: usize,
 }
 
-// A write's answer. specs/Write.antt gives the number and place of each case.
+// Why a file is not written. specs/Write.antt gives the number and place of each case.
 #[derive(Clone, Copy)]
-pub enum WriteAnswer {
-    // The file stands at the buffer's start, with so many bytes.
-    Written(usize),
+pub enum Unwritten {
     // A count is out of range, at this place: rule 1.
     Uncounted(Place),
     // The buffer is shorter than the file.
     NoRoom,
 }
 
+// A write's answer: the file stands at the buffer's start, with so many bytes, or why it does not.
+pub type WriteAnswer = Result<usize, Unwritten>;
+
 // Document 01's number of each fault.
-fn fault_number(fault: Fault) -> u8
-    ensures { result ≡ fault_number fault }
-{
-    match fault {
-        Fault::Short => 11,
-        Fault::OtherTag => 12,
-        Fault::OtherLength => 13,
-        Fault::OutOfRange => 14,
-        Fault::LeftOver => 15,
+impl From<Fault> for u8 {
+    ghost from_gives = { λ fault n. n ≡ fault_number fault };
+
+    fn from(fault: Fault) -> u8 {
+        match fault {
+            Fault::Short => 11,
+            Fault::OtherTag => 12,
+            Fault::OtherLength => 13,
+            Fault::OutOfRange => 14,
+            Fault::LeftOver => 15,
+        }
     }
 }
 
@@ -92,14 +93,14 @@ fn fault_number(fault: Fault) -> u8
 pub fn file_refusal(answer: ReadAnswer) -> FileRefusal
     ensures { result ≡ file_refusal answer }
 {
-    match answer {
-        ReadAnswer::Whole => FileRefusal {
+    let Err(Misread { fault, offset }) = answer else {
+        return FileRefusal {
             number: 0,
             offset: 0,
-        },
-        ReadAnswer::Refused(fault, offset) => FileRefusal {
-            number: fault_number(fault),
-            offset,
-        },
+        };
+    };
+    FileRefusal {
+        number: u8::from(fault),
+        offset,
     }
 }
