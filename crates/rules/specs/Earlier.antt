@@ -1,13 +1,12 @@
 -- The judgement by rules 2 to 4 in one pass over the places: of two refusals the one by the lower rule counts, and the former
 -- where both are by the same rule. Rule 5 comes behind them. Assumes nothing.
-use Rattle.std.specs.Prelude.{ℕ, Bool, true, false, cond, ltb, eqb}
+use Rattle.std.specs.Prelude.{ℕ, Bool, true, false, cond, ltb, eqb, Ok, Err}
 use Rattle.std.proofs.Math.Option.{Option, none, some, map}
 use Rattle.table.specs.Meaning.{TaskM, SubsystemM}
 use Rattle.rules.specs.declared.Rule.{Rule}
 use Rattle.rules.specs.declared.Rule.TheVariants.{Range, Order, Access}
 use Rattle.rules.specs.declared.Place.{Place}
-use Rattle.rules.specs.declared.Judged.{Judged}
-use Rattle.rules.specs.declared.Judged.TheVariants.{Admitted, Refused}
+use Rattle.rules.specs.Judged.{Judged}
 use Rattle.rules.specs.Refusal.{number_of}
 use Rattle.rules.specs.Rules.{place, refused_at, unless_refused, subsystem_breaks, task_breaks, offender_in}
 
@@ -19,19 +18,19 @@ in_order found =
 
 -- Whether a judgement is by rule 2, the first of them.
 abbrev pub is_first : Judged → Bool
-is_first Admitted = false
-is_first (Refused k p) = eqb (number_of k) 2
+is_first (Ok _) = false
+is_first (Err r) = eqb (number_of r.rule) 2
 
 -- Whether a judgement is a refusal.
 abbrev pub is_refused : Judged → Bool
-is_refused Admitted = false
-is_refused (Refused k p) = true
+is_refused (Ok _) = false
+is_refused (Err _) = true
 
 -- Of two judgements the one by the lower rule; the former where both are by the same.
 abbrev pub earlier : Judged → Judged → Judged
-earlier found Admitted = found
-earlier Admitted (Refused k p) = Refused k p
-earlier (Refused j q) (Refused k p) = cond (ltb (number_of k) (number_of j)) (Refused k p) (Refused j q)
+earlier found (Ok _) = found
+earlier (Ok _) (Err r) = Err r
+earlier (Err f) (Err r) = cond (ltb (number_of r.rule) (number_of f.rule)) (Err r) (Err f)
 
 -- One place by itself, given what it breaks: the subsystem's own place, and a task's.
 unfoldable pub judged_at : (Rule → Bool) → Place → Judged

@@ -1,4 +1,5 @@
--- The rules, and the number and place of each answer.
+-- The rules, the answers, and the number and place of each.
+pub mod Judged
 pub mod Rules
 pub mod Refusal
 pub mod Admitted

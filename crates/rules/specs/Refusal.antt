@@ -1,10 +1,9 @@
 -- Document 01's number and place for each answer of the judge: the one definition that contracts and promises speak
 -- through. Assumes nothing.
-use Rattle.std.specs.Prelude.{ℕ}
+use Rattle.std.specs.Prelude.{ℕ, Ok, Err}
 use Rattle.rules.specs.declared.Rule.{Rule}
 use Rattle.rules.specs.declared.Rule.TheVariants.{Counts, Range, Order, Access, Overrun}
-use Rattle.rules.specs.declared.Judged.{Judged}
-use Rattle.rules.specs.declared.Judged.TheVariants.{Admitted, Refused}
+use Rattle.rules.specs.Judged.{Judged}
 
 abbrev pub number_of : Rule → ℕ
 number_of Counts = 1
@@ -20,5 +19,5 @@ pub record Refusal : Type 0 where
   pub task : ℕ
 
 abbrev pub refusal : Judged → Refusal
-refusal Admitted = record { number = 0; subsystem = 0; task = 0 }
-refusal (Refused k p) = record { number = number_of k; subsystem = p.subsystem; task = p.task }
+refusal (Ok _) = record { number = 0; subsystem = 0; task = 0 }
+refusal (Err r) = record { number = number_of r.rule; subsystem = r.place.subsystem; task = r.place.task }

@@ -1,6 +1,6 @@
 -- Rules 1 to 5 over what a table means, and the first refusal in their order. A place is what document 01 prints:
 -- subsystems and tasks from 1, task 0 for the subsystem itself, and 0 0 for the table as a whole. Assumes nothing.
-use Rattle.std.specs.Prelude.{ℕ, zero, suc, ◌+◌, Bool, false, cond, ◌||◌, not, ltb, leb, eqb}
+use Rattle.std.specs.Prelude.{ℕ, zero, suc, ◌+◌, Bool, false, cond, ◌||◌, not, ltb, leb, eqb, Ok, Err}
 use Rattle.std.proofs.Math.Option.{Option, none, some, map}
 use Rattle.lists.specs.Range.{all_to, first_of, first_such}
 use Rattle.table.specs.Limits.{most, largest}
@@ -10,8 +10,7 @@ use Rattle.holding.specs.Holding.{holding}
 use Rattle.rules.specs.declared.Rule.{Rule}
 use Rattle.rules.specs.declared.Rule.TheVariants.{Counts, Range, Order, Access, Overrun}
 use Rattle.rules.specs.declared.Place.{Place}
-use Rattle.rules.specs.declared.Judged.{Judged}
-use Rattle.rules.specs.declared.Judged.TheVariants.{Admitted, Refused}
+use Rattle.rules.specs.Judged.{Judged, admitted, refused}
 
 -- A count from 1 to the most; a time from 1 to the largest.
 abbrev pub count_out : ℕ → Bool
@@ -70,16 +69,16 @@ offender sys k = first_of (offender_at sys k) (subsystem_count sys) 0
 
 -- The judgement by rule k alone.
 abbrev pub refused_at : Rule → Option Place → Judged
-refused_at k (some p) = Refused k p
-refused_at k none = Admitted
+refused_at k (some p) = refused k p
+refused_at k none = admitted
 
 unfoldable pub judged_by : System → Rule → Judged
 judged_by sys k = refused_at k (offender sys k)
 
 -- A refusal stands; where there is none, the next rule judges.
 abbrev pub unless_refused : Judged → Judged → Judged
-unless_refused (Refused k p) next = Refused k p
-unless_refused Admitted next = next
+unless_refused (Err r) next = Err r
+unless_refused (Ok _) next = next
 
 -- All of rule 2 before all of rule 3, and so on; a table that no rule refuses is admitted.
 unfoldable pub judged_past_counts : System → Judged
@@ -89,13 +88,13 @@ judged_past_counts sys =
 
 -- The judgement by rule 1 alone: N and M, then each n.
 unfoldable pub counts_judged : System → Judged
-counts_judged sys = cond (table_breaks sys) (Refused Counts (place 0 0)) (judged_by sys Counts)
+counts_judged sys = cond (table_breaks sys) (refused Counts (place 0 0)) (judged_by sys Counts)
 
 -- The judgement. All of rule 1 comes first: N and M, then each n.
 unfoldable pub judge_of : System → Judged
 judge_of sys =
-    cond (table_breaks sys) (Refused Counts (place 0 0)) (unless_refused (judged_by sys Counts) (judged_past_counts sys))
+    cond (table_breaks sys) (refused Counts (place 0 0)) (unless_refused (judged_by sys Counts) (judged_past_counts sys))
 
 -- The judgement of a table that is to hold one subsystem: any other N is refused by rule 1, at 0 0.
 unfoldable pub judge_one_of : System → Judged
-judge_one_of sys = cond (eqb (subsystem_count sys) 1) (judge_of sys) (Refused Counts (place 0 0))
+judge_one_of sys = cond (eqb (subsystem_count sys) 1) (judge_of sys) (refused Counts (place 0 0))
