@@ -8,33 +8,44 @@ ghost use Rattle.std.specs.Prelude.{◌≡◌, ◌≤◌, ◌<◌, ◌^◌};
 ghost use Rattle.supply.specs.Supply.{supply};
 ghost use Rattle.supply.specs.Moment.{moment_of};
 
-// The supply of a window of `x` ticks, for a budget of at least one tick that is given in each period before `end`.
-// The caller keeps the budget within its end and the end within the period; then no number here can wrap. One division.
-pub fn supply_in(period: u32, budget: u32, end: u32, x: u32) -> u32
-    requires { (1 ≤ budget) × (budget ≤ end) × (end ≤ period) }
-    ensures { result ≡ supply period budget end x }
-{
-    let lead = end - budget;
-    if x < lead {
-        return 0;
-    }
-    let idle = period - budget;
-    let past = x - lead;
-    let whole = past / period;
-    let rest = past - whole * period;
-    let full = whole * budget;
-    full + rest.saturating_sub(idle)
+// What a subsystem shares out: a budget of at least one tick in each period, given among the period's first `end` ticks. The
+// budget is within its end and the end within the period; so no number of the methods can wrap.
+#[derive(Clone, Copy)]
+pub struct Share {
+    pub period: u32,
+    pub budget: u32,
+    pub end: u32,
+    ghost budget_least: { 1 ≤ budget },
+    ghost budget_by_end: { budget ≤ end },
+    ghost end_by_period: { end ≤ period },
 }
 
-// The shortest window that is sure to hold `n` ticks, under the same condition. One division, of 32 bits.
-pub fn moment_of(period: u32, budget: u32, end: u32, n: u32) -> u64
-    requires le_budget { (1 ≤ budget) × (budget ≤ end) × (end ≤ period) }
-    requires le_n { (1 ≤ n) × (n < 2 ^ 31) }
-    ensures { result ≡ moment_of period budget end n }
-{
-    let gap = u64::from(period - budget) + u64::from(end - budget);
-    let before = n - 1;
-    let whole = before / budget;
-    let rest = before - whole * budget;
-    gap + u64::from(whole) * u64::from(period) + (u64::from(rest) + 1)
+impl Share {
+    // The supply of a window of `x` ticks. One division.
+    pub fn supply_in(&self, x: u32) -> u32
+        ensures { result ≡ supply self.now.period self.now.budget self.now.end x }
+    {
+        let lead = self.end - self.budget;
+        if x < lead {
+            return 0;
+        }
+        let idle = self.period - self.budget;
+        let past = x - lead;
+        let whole = past / self.period;
+        let rest = past - whole * self.period;
+        let full = whole * self.budget;
+        full + rest.saturating_sub(idle)
+    }
+
+    // The shortest window that is sure to hold `n` ticks. One division, of 32 bits.
+    pub fn moment_of(&self, n: u32) -> u64
+        requires le_n { (1 ≤ n) × (n < 2 ^ 31) }
+        ensures { result ≡ moment_of self.now.period self.now.budget self.now.end n }
+    {
+        let gap = u64::from(self.period - self.budget) + u64::from(self.end - self.budget);
+        let before = n - 1;
+        let whole = before / self.budget;
+        let rest = before - whole * self.budget;
+        gap + u64::from(whole) * u64::from(self.period) + (u64::from(rest) + 1)
+    }
 }
