@@ -1,6 +1,6 @@
 // Division rounded up, loads and what they ask for, and how far on a search for a least solution of x = constant + demand of
-// loads in x ticks may stand. Steps 7, 9 and 10 of the analysis are such solutions; crate `search` finds them. Loads come as
-// a slice of periods and a slice of costs, of which the first n count. Every function here is proved, and the crate assumes nothing.
+// loads in x ticks may stand. Steps 7, 9 and 10 of the analysis are such solutions; crate `search` finds them. Loads are a
+// `LoadList`, of which the first n count. Every function here is proved, and the crate assumes nothing.
 #![tactic(auto)]
 
 ghost use Rattle.std.specs.Prelude.{◌≡◌, ◌*◌, ◌-◌, ◌/◌, ◌≤◌, ◌<◌, ◌^◌};
@@ -31,37 +31,12 @@ fn load_in(period: u32, cost: u32, x: u32) -> u64
     u64::from(round_up(x, period)) * u64::from(cost)
 }
 
-// What the first n loads ask for in x ticks.
-pub fn demand_in(periods: &[u32], costs: &[u32], n: usize, x: u32) -> u64
-    requires loads { Loads periods.now costs.now n }
-    requires le_x { (1 ≤ x) × (x < reach) }
-    ensures { (result ≡ demand periods.now costs.now n x) × (result ≤ 2 ^ 48) }
-{
-    let mut sum: u64 = 0;
-    for t in 0..n {
-        sum += load_in(periods[t], costs[t], x);
-    }
-    sum
-}
-
 // What a load asks for of every tick, in parts of `UNIT`, rounded down.
 fn share_of(period: u32, cost: u32) -> u64
     requires { (1 ≤ period) × (cost < 2 ^ 20) }
     ensures { (result ≡ cost * unit / period) × (result < 2 ^ 60) }
 {
     u64::from(cost) * UNIT / u64::from(period)
-}
-
-// What the first n loads leave free of every tick, in parts of `UNIT`; 0 where they leave nothing.
-pub fn spare_of(periods: &[u32], costs: &[u32], n: usize) -> u64
-    requires { Loads periods.now costs.now n }
-    ensures { result ≡ unit - shares periods.now costs.now n }
-{
-    let mut sum: u64 = 0;
-    for j in 0..n {
-        sum += share_of(periods[j], costs[j]);
-    }
-    UNIT.saturating_sub(sum)
 }
 
 // How far the first so many ticks of work reach where loads leave `spare` of every tick: a search with that much to do besides them may
@@ -74,18 +49,52 @@ pub fn standing(constant: u32, spare: u64) -> u32
     reached.min(u64::from(REACH)) as u32
 }
 
-// How many of the first n loads ask together for no more than every tick has. With one more they are never done with what they
-// have asked for.
-pub fn fitting(periods: &[u32], costs: &[u32], n: usize) -> usize
-    requires { Loads periods.now costs.now n }
-    ensures { Fitting periods.now costs.now n result }
-{
-    let mut sum: u64 = 0;
-    for j in 0..n {
-        sum += share_of(periods[j], costs[j]);
-        if UNIT < sum {
-            return j;
+// Loads: each asks for its cost once in each of its periods. Load t has the period and the cost at place t.
+#[derive(Clone, Copy)]
+pub struct LoadList<'a> {
+    pub periods: &'a [u32],
+    pub costs: &'a [u32],
+}
+
+impl<'a> LoadList<'a> {
+    // What the first n loads ask for in x ticks.
+    pub fn demand_in(&self, n: usize, x: u32) -> u64
+        requires loads { Loads self.now.periods.now self.now.costs.now n }
+        requires le_x { (1 ≤ x) × (x < reach) }
+        ensures { (result ≡ demand self.now.periods.now self.now.costs.now n x) × (result ≤ 2 ^ 48) }
+    {
+        let mut sum: u64 = 0;
+        for t in 0..n {
+            sum += load_in(self.periods[t], self.costs[t], x);
         }
+        sum
     }
-    n
+
+    // What the first n loads leave free of every tick, in parts of `UNIT`; 0 where they leave nothing.
+    pub fn spare_of(&self, n: usize) -> u64
+        requires { Loads self.now.periods.now self.now.costs.now n }
+        ensures { result ≡ unit - shares self.now.periods.now self.now.costs.now n }
+    {
+        let mut sum: u64 = 0;
+        for j in 0..n {
+            sum += share_of(self.periods[j], self.costs[j]);
+        }
+        UNIT.saturating_sub(sum)
+    }
+
+    // How many of the first n loads ask together for no more than every tick has. With one more they are never done with what they
+    // have asked for.
+    pub fn fitting(&self, n: usize) -> usize
+        requires { Loads self.now.periods.now self.now.costs.now n }
+        ensures { Fitting self.now.periods.now self.now.costs.now n result }
+    {
+        let mut sum: u64 = 0;
+        for j in 0..n {
+            sum += share_of(self.periods[j], self.costs[j]);
+            if UNIT < sum {
+                return j;
+            }
+        }
+        n
+    }
 }

@@ -1,7 +1,7 @@
 use mathlib.Core.Path.{sym}
 use Rattle.least.proofs.ShareLaws.{shares_none, shares_turn}
 use native.Mathlib.Omega.{arith}
-use Rattle.least.proofs.fitting.Goals as goal
+use Rattle.least.proofs.LoadList.fitting.Goals as goal
 
 pub loop-j-init : goal.loop-j-init
 loop-j-init c =
