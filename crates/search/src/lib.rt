@@ -9,44 +9,10 @@ ghost use Rattle.least.specs.Demand.{total};
 ghost use Rattle.least.specs.Search.{ComesDown, IsLeast, reach};
 ghost use Rattle.search.specs.After.{Fit, Periods, EndsAt, slots, afterwards, After, Bounded, Found, Behind, CaughtUp, Advanced};
 
-use least::{REACH, round_up};
+use least::{LoadList, REACH, round_up};
 
 // How many loads a search may have.
 pub const SLOTS: usize = 8;
-
-// Load t, whose last period has ended before x, asks again until it is ahead: most often once, else as often as the ticks that its
-// periods leave free make up for what it is behind. A load that leaves none free never is. What there is then to do; above the
-// bound where it would be too much.
-fn ask(
-    periods: &[u32],
-    costs: &[u32],
-    frees: &[u32],
-    t: usize,
-    ends: &mut [u32; SLOTS],
-    x: u32,
-    bound: u64,
-) -> u32
-    requires t_lt_slots { (t < slots) × (t < length periods.now) × (t < length costs.now) × (t < length frees.now) × (t < length ends.old) }
-    requires behind { Behind (get_or ends.old t 0) x (get_or periods.now t 0) (get_or costs.now t 0) (get_or frees.now t 0) bound }
-    ensures { CaughtUp ends.old t x (get_or periods.now t 0) (get_or costs.now t 0) bound ends.new result }
-{
-    let end = ends[t];
-    let behind = x - end;
-    if behind <= frees[t] {
-        ends[t] = end + periods[t];
-        return x + costs[t];
-    }
-    if frees[t] == 0 {
-        return REACH;
-    }
-    let times = round_up(behind, frees[t]);
-    let reached = u64::from(x) + u64::from(times) * u64::from(costs[t]);
-    if bound < reached {
-        return REACH;
-    }
-    ends[t] = end + times * periods[t];
-    reached as u32
-}
 
 // Into `ends`: where the last period of each of the first n loads ends that begins within y ticks.
 pub fn ends_at(periods: &[u32], n: usize, y: u32, ends: &mut [u32; SLOTS])
@@ -60,117 +26,130 @@ pub fn ends_at(periods: &[u32], n: usize, y: u32, ends: &mut [u32; SLOTS])
 }
 
 // On to `start`, where the search may stand: each load asks as often as it does by then. What there is then to do, where it is x now.
-fn advanced(
-    periods: &[u32],
-    costs: &[u32],
-    n: usize,
-    ends: &mut [u32; SLOTS],
-    x: u32,
-    start: u32,
-) -> u32
-    requires fit { Fit periods.now costs.now n × (n ≤ slots) × (n ≤ length ends.old) }
+fn advanced(loads: &LoadList, n: usize, ends: &mut [u32; SLOTS], x: u32, start: u32) -> u32
+    requires fit { Fit loads.now.periods.now loads.now.costs.now n × (n ≤ slots) × (n ≤ length ends.old) }
     requires x_lt_reach { (x < reach) × (start ≤ reach) }
-    ensures { Advanced periods.now costs.now ends.old n x start ends.new result }
+    ensures { Advanced loads.now.periods.now loads.now.costs.now ends.old n x start ends.new result }
 {
     let mut sum = x;
     for t in 0..n {
         if ends[t] < start {
-            let times = round_up(start - ends[t], periods[t]);
-            ends[t] += times * periods[t];
-            sum += times * costs[t];
+            let times = round_up(start - ends[t], loads.periods[t]);
+            ends[t] += times * loads.periods[t];
+            sum += times * loads.costs[t];
         }
     }
     sum
 }
 
-// The search: the least solution after y ticks, with `more` ticks to do besides the first n loads, where it is at most the bound; else
-// something above the bound. The bound is within reach, or a solution is, and then any bound will do. No solution lies before
-// `start`. `ends` holds the ends of the periods begun by y, and then of those begun by the solution. It goes over all loads in
-// passes, up to one in which none asks: all are ahead then. Two instructions spared at every load are worth more than the last pass.
-fn climb(
-    periods: &[u32],
-    costs: &[u32],
-    frees: &[u32],
-    n: usize,
-    ends: &mut [u32; SLOTS],
-    y: u32,
-    more: u32,
-    start: u32,
-    bound: u64,
-) -> u32
-    requires after { After periods.now costs.now frees.now ends.old n y more start }
-    requires bounded { Bounded (total periods.now costs.now n (afterwards periods.now costs.now n y more)) bound }
-    ensures found { Found periods.now costs.now ends.new n (afterwards periods.now costs.now n y more) bound result }
-    ensures ends_len_unchanged { length ends.new ≡ length ends.old }
-{
-    let mut x = y + more;
-    if x < start {
-        x = advanced(periods, costs, n, ends, x, start);
-        if bound < u64::from(x) {
-            return x;
+// What a search asks: its loads, and what each of them leaves free of its period.
+#[derive(Clone, Copy)]
+pub struct Asking<'a> {
+    pub loads: LoadList<'a>,
+    pub frees: &'a [u32],
+}
+
+impl<'a> Asking<'a> {
+    // Load t, whose last period has ended before x, asks again until it is ahead: most often once, else as often as the ticks that its
+    // periods leave free make up for what it is behind. A load that leaves none free never is. What there is then to do; above the
+    // bound where it would be too much.
+    fn ask(&self, t: usize, ends: &mut [u32; SLOTS], x: u32, bound: u64) -> u32
+        requires t_lt_slots { (t < slots) × (t < length self.now.loads.periods.now) × (t < length self.now.loads.costs.now) × (t < length self.now.frees.now) × (t < length ends.old) }
+        requires behind { Behind (get_or ends.old t 0) x (get_or self.now.loads.periods.now t 0) (get_or self.now.loads.costs.now t 0) (get_or self.now.frees.now t 0) bound }
+        ensures { CaughtUp ends.old t x (get_or self.now.loads.periods.now t 0) (get_or self.now.loads.costs.now t 0) bound ends.new result }
+    {
+        let end = ends[t];
+        let behind = x - end;
+        let free = self.frees[t];
+        if behind <= free {
+            ends[t] = end + self.loads.periods[t];
+            return x + self.loads.costs[t];
         }
+        if free == 0 {
+            return REACH;
+        }
+        let times = round_up(behind, free);
+        let reached = u64::from(x) + u64::from(times) * u64::from(self.loads.costs[t]);
+        if bound < reached {
+            return REACH;
+        }
+        ends[t] = end + times * self.loads.periods[t];
+        reached as u32
     }
-    'passes: loop {
-        let before = x;
-        for t in 0..n {
-            if ends[t] < x {
-                x = ask(periods, costs, frees, t, ends, x, bound);
-                if bound < u64::from(x) {
-                    return x;
-                }
+
+    // The search: the least solution after y ticks, with `more` ticks to do besides the first n loads, where it is at most the bound; else
+    // something above the bound. The bound is within reach, or a solution is, and then any bound will do. No solution lies before
+    // `start`. `ends` holds the ends of the periods begun by y, and then of those begun by the solution. It goes over all loads in
+    // passes, up to one in which none asks: all are ahead then. Two instructions spared at every load are worth more than the last pass.
+    fn climb(
+        &self,
+        n: usize,
+        ends: &mut [u32; SLOTS],
+        y: u32,
+        more: u32,
+        start: u32,
+        bound: u64,
+    ) -> u32
+        requires after { After self.now.loads.periods.now self.now.loads.costs.now self.now.frees.now ends.old n y more start }
+        requires bounded { Bounded (total self.now.loads.periods.now self.now.loads.costs.now n (afterwards self.now.loads.periods.now self.now.loads.costs.now n y more)) bound }
+        ensures found { Found self.now.loads.periods.now self.now.loads.costs.now ends.new n (afterwards self.now.loads.periods.now self.now.loads.costs.now n y more) bound result }
+        ensures ends_len_unchanged { length ends.new ≡ length ends.old }
+    {
+        let mut x = y + more;
+        if x < start {
+            x = advanced(&self.loads, n, ends, x, start);
+            if bound < u64::from(x) {
+                return x;
             }
         }
-        if x == before {
-            return x;
+        'passes: loop {
+            let before = x;
+            for t in 0..n {
+                if ends[t] < x {
+                    x = self.ask(t, ends, x, bound);
+                    if bound < u64::from(x) {
+                        return x;
+                    }
+                }
+            }
+            if x == before {
+                return x;
+            }
         }
     }
-}
 
-// The least solution after y ticks where it is at most the bound; else something above the bound.
-pub fn least_after(
-    periods: &[u32],
-    costs: &[u32],
-    frees: &[u32],
-    n: usize,
-    ends: &mut [u32; SLOTS],
-    y: u32,
-    more: u32,
-    start: u32,
-    bound: u32,
-) -> u32
-    requires after { After periods.now costs.now frees.now ends.old n y more start }
-    requires bound_lt_reach { bound < reach }
-    ensures found { Found periods.now costs.now ends.new n (afterwards periods.now costs.now n y more) bound result }
-    ensures ends_len_unchanged { length ends.new ≡ length ends.old }
-{
-    climb(
-        periods,
-        costs,
-        frees,
-        n,
-        ends,
-        y,
-        more,
-        start,
-        u64::from(bound),
-    )
-}
+    // The least solution after y ticks where it is at most the bound; else something above the bound.
+    pub fn least_after(
+        &self,
+        n: usize,
+        ends: &mut [u32; SLOTS],
+        y: u32,
+        more: u32,
+        start: u32,
+        bound: u32,
+    ) -> u32
+        requires after { After self.now.loads.periods.now self.now.loads.costs.now self.now.frees.now ends.old n y more start }
+        requires bound_lt_reach { bound < reach }
+        ensures found { Found self.now.loads.periods.now self.now.loads.costs.now ends.new n (afterwards self.now.loads.periods.now self.now.loads.costs.now n y more) bound result }
+        ensures ends_len_unchanged { length ends.new ≡ length ends.old }
+    {
+        self.climb(n, ends, y, more, start, u64::from(bound))
+    }
 
-// The same where the total is known to come down within reach: there is a least solution then, and nothing is compared with a bound.
-pub fn least_within(
-    periods: &[u32],
-    costs: &[u32],
-    frees: &[u32],
-    n: usize,
-    ends: &mut [u32; SLOTS],
-    y: u32,
-    more: u32,
-    start: u32,
-) -> u32
-    requires after { After periods.now costs.now frees.now ends.old n y more start }
-    requires comes_down { ComesDown (total periods.now costs.now n (afterwards periods.now costs.now n y more)) }
-    ensures least { IsLeast (total periods.now costs.now n (afterwards periods.now costs.now n y more)) result }
-    ensures ends_at { EndsAt periods.now ends.new n result × (length ends.new ≡ length ends.old) }
-{
-    climb(periods, costs, frees, n, ends, y, more, start, u64::MAX)
+    // The same where the total is known to come down within reach: there is a least solution then, and nothing is compared with a bound.
+    pub fn least_within(
+        &self,
+        n: usize,
+        ends: &mut [u32; SLOTS],
+        y: u32,
+        more: u32,
+        start: u32,
+    ) -> u32
+        requires after { After self.now.loads.periods.now self.now.loads.costs.now self.now.frees.now ends.old n y more start }
+        requires comes_down { ComesDown (total self.now.loads.periods.now self.now.loads.costs.now n (afterwards self.now.loads.periods.now self.now.loads.costs.now n y more)) }
+        ensures least { IsLeast (total self.now.loads.periods.now self.now.loads.costs.now n (afterwards self.now.loads.periods.now self.now.loads.costs.now n y more)) result }
+        ensures ends_at { EndsAt self.now.loads.periods.now ends.new n result × (length ends.new ≡ length ends.old) }
+    {
+        self.climb(n, ends, y, more, start, u64::MAX)
+    }
 }

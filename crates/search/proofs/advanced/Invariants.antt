@@ -4,4 +4,4 @@ use Rattle.search.proofs.advanced.Given as goal
 
 abbrev pub invariant-loop-t : goal.invariant-loop-t
 invariant-loop-t l =
-    Advancing l.periods l.costs l.initial.ends l.x l.start l.t l.ends l.sum
+    Advancing l.loads.periods.now l.loads.costs.now l.initial.ends l.x l.start l.t l.ends l.sum

@@ -6,8 +6,8 @@ use Rattle.search.specs.After.{afterwards}
 use Rattle.search.proofs.ClimbLaws.{Climbing, climbs_from, climbs_start, total_starts, falls_behind, no_solution, climb_small, climbs_on, grows, too_far, settled}
 use Rattle.search.proofs.PassLaws.{Passed, passes, asks}
 use native.Mathlib.Omega.{arith}
-use Rattle.search.proofs.climb.Goals.{else-ends-t, else-x-start, then-ends-t+else-bound-from-2, then-x-start+else-bound-from}
-use Rattle.search.proofs.climb.Goals as goal
+use Rattle.search.proofs.Asking.climb.Goals.{else-ends-t, else-x-start, then-ends-t+else-bound-from-2, then-x-start+else-bound-from}
+use Rattle.search.proofs.Asking.climb.Goals as goal
 
 -- What holds before the loops: at y + more, or further on at `start`.
 abbrev Begun : List ℕ → List ℕ → ℕ → ℕ → List ℕ → List ℕ → ℕ → Type 0
@@ -31,11 +31,11 @@ returns-then-bound-from-clause-found c =
 
 pub passes-init : goal.passes-init
 passes-init c =
-    let begun : Begun c.args.periods.now c.args.costs.now c.args.n (afterwards c.args.periods.now c.args.costs.now c.args.n c.args.y c.args.more) c.args.ends.now c.if-x-start.ends c.if-x-start.x = (elim c.if-x-start.branch [
+    let begun : Begun c.args.self.now.loads.periods.now c.args.self.now.loads.costs.now c.args.n (afterwards c.args.self.now.loads.periods.now c.args.self.now.loads.costs.now c.args.n c.args.y c.args.more) c.args.ends.now c.if-x-start.ends c.if-x-start.x = (elim c.if-x-start.branch [
       | then-x-start+else-bound-from w ↦ let climbing = climbs_start _ _ _ _ _ _ _ _ c.requires.after w.advanced-x.ensures w.if-x-start.true in
           let small = climb_small _ _ _ _ _ _ c.requires.after.waits.fit climbing _ (total_starts _ _ _ _ _ _ _ _ c.requires.after) c.requires.bounded (omega (arith, w.if-bound-from.false, w.from.ensures)) in
-          begun_at c.args.periods.now c.args.costs.now c.args.n (afterwards c.args.periods.now c.args.costs.now c.args.n c.args.y c.args.more) c.args.ends.now w.ends-is w.x-is (climbing, omega (arith, small), w.advanced-x.ensures.same_length)
-      | else-x-start w ↦ begun_at c.args.periods.now c.args.costs.now c.args.n (afterwards c.args.periods.now c.args.costs.now c.args.n c.args.y c.args.more) c.args.ends.now w.ends-is w.x-is (climbs_from _ _ _ _ _ _ _ _ c.requires.after, c.requires.after.waits.small, refl)
+          begun_at c.args.self.now.loads.periods.now c.args.self.now.loads.costs.now c.args.n (afterwards c.args.self.now.loads.periods.now c.args.self.now.loads.costs.now c.args.n c.args.y c.args.more) c.args.ends.now w.ends-is w.x-is (climbing, omega (arith, small), w.advanced-x.ensures.same_length)
+      | else-x-start w ↦ begun_at c.args.self.now.loads.periods.now c.args.self.now.loads.costs.now c.args.n (afterwards c.args.self.now.loads.periods.now c.args.self.now.loads.costs.now c.args.n c.args.y c.args.more) c.args.ends.now w.ends-is w.x-is (climbs_from _ _ _ _ _ _ _ _ c.requires.after, c.requires.after.waits.small, refl)
     ]) in
     (begun.2, begun.0, begun.1)
 
@@ -51,17 +51,17 @@ pub loop-t-preserved : goal.loop-t-preserved
 loop-t-preserved c =
     let all_ends : length c.loop-t.ends ≡ length c.args.ends.now = c.loop-t.invariant.0 in
     let room : c.loop-t.t < length c.loop-t.ends = omega (arith, c.loop-t-test.true, c.requires.after.with_end, all_ends) in
-    let stepped : Stepped c.args.periods.now c.args.costs.now c.args.n (afterwards c.args.periods.now c.args.costs.now c.args.n c.args.y c.args.more) c.loop-t.ends c.passes.x c.loop-t.t c.if-ends-t.ends c.if-ends-t.x = (elim c.if-ends-t.branch [
+    let stepped : Stepped c.args.self.now.loads.periods.now c.args.self.now.loads.costs.now c.args.n (afterwards c.args.self.now.loads.periods.now c.args.self.now.loads.costs.now c.args.n c.args.y c.args.more) c.loop-t.ends c.passes.x c.loop-t.t c.if-ends-t.ends c.if-ends-t.x = (elim c.if-ends-t.branch [
       | then-ends-t+else-bound-from-2 w ↦ let within : w.ask-x.result ≤ c.args.bound = omega (arith, w.if-bound-from-2.false, w.from-then-ends-t.ensures) in
           let climbing = climbs_on _ _ _ _ _ _ c.requires.after.waits.fit c.loop-t.invariant.1 _ c.loop-t-test.true _ _ _ w.ask-x.ensures (room) within in
           let small = climb_small _ _ _ _ _ _ c.requires.after.waits.fit climbing _ (total_starts _ _ _ _ _ _ _ _ c.requires.after) c.requires.bounded within in
-          stepped_at c.args.periods.now c.args.costs.now c.args.n (afterwards c.args.periods.now c.args.costs.now c.args.n c.args.y c.args.more) c.loop-t.ends c.passes.x c.loop-t.t w.ends-is w.x-is (
+          stepped_at c.args.self.now.loads.periods.now c.args.self.now.loads.costs.now c.args.n (afterwards c.args.self.now.loads.periods.now c.args.self.now.loads.costs.now c.args.n c.args.y c.args.more) c.loop-t.ends c.passes.x c.loop-t.t w.ends-is w.x-is (
             w.ask-x.ensures.same_length,
             climbing,
             omega (arith, small),
             asks _ _ _ _ _ c.loop-t.invariant.3.grown (grows _ _ _ _ _ _ c.requires.after.waits.fit c.loop-t.invariant.1 _ c.loop-t-test.true _ _ _ w.ask-x.ensures w.if-ends-t.true within),
           )
-      | else-ends-t w ↦ stepped_at c.args.periods.now c.args.costs.now c.args.n (afterwards c.args.periods.now c.args.costs.now c.args.n c.args.y c.args.more) c.loop-t.ends c.passes.x c.loop-t.t w.ends-is w.x-is (refl, c.loop-t.invariant.1, c.loop-t.invariant.2, passes _ _ _ _ c.loop-t.invariant.3 w.if-ends-t.false)
+      | else-ends-t w ↦ stepped_at c.args.self.now.loads.periods.now c.args.self.now.loads.costs.now c.args.n (afterwards c.args.self.now.loads.periods.now c.args.self.now.loads.costs.now c.args.n c.args.y c.args.more) c.loop-t.ends c.passes.x c.loop-t.t w.ends-is w.x-is (refl, c.loop-t.invariant.1, c.loop-t.invariant.2, passes _ _ _ _ c.loop-t.invariant.3 w.if-ends-t.false)
     ]) in
     let g = stepped in
     (g.0 ∙ c.loop-t.invariant.0, g.1, g.2, g.3)

@@ -1,4 +1,4 @@
--- `search::climb` meets its contract. The invariant of both loops: x is what there is to do once the loads have asked as often as `ends`
+-- `search::Asking::climb` meets its contract. The invariant of both loops: x is what there is to do once the loads have asked as often as `ends`
 -- says; in a pass, unless x has grown in it, the loads so far are ahead (`Passed`). Assumes nothing.
 use Prim.Native.Nat.{◌-◌, ◌^◌, ◌<◌}
 use mathlib.Core.Path.{◌≡◌}
@@ -6,15 +6,15 @@ use lib.ListN.{length}
 use Rattle.search.specs.After.{afterwards}
 use Rattle.search.proofs.ClimbLaws.{Climbing}
 use Rattle.search.proofs.PassLaws.{Passed}
-use Rattle.search.proofs.climb.Given as goal
+use Rattle.search.proofs.Asking.climb.Given as goal
 
 abbrev pub invariant-loop-t : goal.invariant-loop-t
 invariant-loop-t l =
-    (length l.ends ≡ length l.fn.ends) × Climbing l.periods l.costs l.ends l.n (afterwards l.periods l.costs l.n l.y l.more) l.x × (l.x < 2 ^ 25) × Passed l.ends l.before l.x l.t
+    (length l.ends ≡ length l.fn.ends) × Climbing l.self.loads.periods.now l.self.loads.costs.now l.ends l.n (afterwards l.self.loads.periods.now l.self.loads.costs.now l.n l.y l.more) l.x × (l.x < 2 ^ 25) × Passed l.ends l.before l.x l.t
 
 abbrev pub invariant-passes : goal.invariant-passes
 invariant-passes l =
-    (length l.ends ≡ length l.fn.ends) × Climbing l.periods l.costs l.ends l.n (afterwards l.periods l.costs l.n l.y l.more) l.x × (l.x < 2 ^ 25)
+    (length l.ends ≡ length l.fn.ends) × Climbing l.self.loads.periods.now l.self.loads.costs.now l.ends l.n (afterwards l.self.loads.periods.now l.self.loads.costs.now l.n l.y l.more) l.x × (l.x < 2 ^ 25)
 
 abbrev pub decreases-passes : goal.decreases-passes
 decreases-passes l = 2 ^ 25 - l.x
