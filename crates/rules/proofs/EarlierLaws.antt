@@ -15,8 +15,8 @@ use Rattle.table.proofs.GridLaws.{count_of_block, task_of_block, count_of_grid}
 use Rattle.rules.specs.declared.Rule.{Rule}
 use Rattle.rules.specs.declared.Rule.TheVariants.{Counts, Range, Order, Access, Overrun}
 use Rattle.rules.specs.declared.Place.{Place}
-use Rattle.rules.specs.declared.Judged.{Judged}
-use Rattle.rules.specs.declared.Judged.TheVariants.{Admitted, Refused}
+use Rattle.std.specs.Prelude.{Ok, Err}
+use Rattle.rules.specs.Judged.{Judged, admitted, refused}
 use Rattle.rules.specs.Refusal.{number_of}
 use Rattle.rules.specs.Rules.{place, refused_at, unless_refused, subsystem_breaks, task_breaks, place_breaks, offender_in, offender_at, offender, judged_by, judged_past_counts}
 use Rattle.rules.specs.Earlier.{in_order, earlier, is_first, is_refused, judged_at, judged_own, judged_task, judged_subsystem}
@@ -55,7 +55,7 @@ one_more a b = go (a Range) (a Order) (a Access) (b Range) (b Order) (b Access)
     go none none none none none none = refl
 
 -- Whether it is by rule 2, by its number.
-pub first_by : (found : Judged) (k : Rule) (p : Place) (x : ℕ) → found ≡ Refused k p → x ≡ number_of k → eqb x 2 ≡ is_first found
+pub first_by : (found : Judged) (k : Rule) (p : Place) (x : ℕ) → found ≡ refused k p → x ≡ number_of k → eqb x 2 ≡ is_first found
 first_by found k p x e f = rw (e, f) refl
 
 -- Behind a refusal by rule 2 nothing is earlier.
@@ -63,53 +63,56 @@ pub nothing_earlier : (found : Judged) (b : Rule → Option Place) → is_first 
 unfolding in_order
 nothing_earlier found b e = go found (b Range) (b Order) (b Access) e
   where
+    by : (k : Rule) (x : Place) (o p q : Option Place) → is_first (refused k x) ≡ true → refused k x ≡ earlier (refused k x) (chain o p q)
+    by Counts x o p q e = absurd (true≢false (sym e))
+    by Order x o p q e = absurd (true≢false (sym e))
+    by Access x o p q e = absurd (true≢false (sym e))
+    by Overrun x o p q e = absurd (true≢false (sym e))
+    by Range x (some y) p q e = refl
+    by Range x none (some y) q e = refl
+    by Range x none none (some y) e = refl
+    by Range x none none none e = refl
+
     go : (found : Judged) (o p q : Option Place) → is_first found ≡ true → found ≡ earlier found (chain o p q)
-    go Admitted o p q e = absurd (true≢false (sym e))
-    go (Refused Counts x) o p q e = absurd (true≢false (sym e))
-    go (Refused Order x) o p q e = absurd (true≢false (sym e))
-    go (Refused Access x) o p q e = absurd (true≢false (sym e))
-    go (Refused Overrun x) o p q e = absurd (true≢false (sym e))
-    go (Refused Range x) (some y) p q e = refl
-    go (Refused Range x) none (some y) q e = refl
-    go (Refused Range x) none none (some y) e = refl
-    go (Refused Range x) none none none e = refl
+    go (Ok _) o p q e = absurd (true≢false (sym e))
+    go (Err r) o p q e = by r.rule r.place o p q e
 
 -- What breaks nothing leaves what was found.
 pub as_it_was : (found next : Judged) → is_refused next ≡ false → found ≡ earlier found next
-as_it_was found Admitted e = refl
-as_it_was found (Refused k p) e = absurd (true≢false e)
+as_it_was found (Ok _) e = refl
+as_it_was found (Err r) e = absurd (true≢false e)
 
 ------------------------------------------------------------------------
 -- The ways out of the code that takes the earlier of two
 
-module _ (found next : Judged) (k : Rule) (p : Place) (e : next ≡ Refused k p) where
-  pub after_none : found ≡ Admitted → Refused k p ≡ earlier found next
+module _ (found next : Judged) (k : Rule) (p : Place) (e : next ≡ refused k p) where
+  pub after_none : found ≡ admitted → refused k p ≡ earlier found next
   after_none f = rw (e, f) refl
 
-  module _ (j : Rule) (q : Place) (f : found ≡ Refused j q) (a b : ℕ) (g : a ≡ number_of k) (h : b ≡ number_of j) where
-    pub by_lower : a < b → Refused k p ≡ earlier found next
+  module _ (j : Rule) (q : Place) (f : found ≡ refused j q) (a b : ℕ) (g : a ≡ number_of k) (h : b ≡ number_of j) where
+    pub by_lower : a < b → refused k p ≡ earlier found next
     by_lower l = rw (e, f, lt-ltb (number_of k) (number_of j) (rw (← g, ← h) l)) refl
 
-    pub by_no_lower : b ≤ a → Refused j q ≡ earlier found next
+    pub by_no_lower : b ≤ a → refused j q ≡ earlier found next
     by_no_lower l = rw (e, f, le-ltb (number_of k) (number_of j) (rw (← g, ← h) l)) refl
 
 ------------------------------------------------------------------------
 -- One place
 
 module _ (breaks : Rule → Bool) (p : Place) where
-  pub at_range : breaks Range ≡ true → Refused Range p ≡ judged_at breaks p
+  pub at_range : breaks Range ≡ true → refused Range p ≡ judged_at breaks p
   unfolding judged_at in_order
   at_range e = rw e refl
 
-  pub at_order : breaks Range ≡ false → breaks Order ≡ true → Refused Order p ≡ judged_at breaks p
+  pub at_order : breaks Range ≡ false → breaks Order ≡ true → refused Order p ≡ judged_at breaks p
   unfolding judged_at in_order
   at_order d e = rw (d, e) refl
 
-  pub at_access : breaks Range ≡ false → breaks Order ≡ false → breaks Access ≡ true → Refused Access p ≡ judged_at breaks p
+  pub at_access : breaks Range ≡ false → breaks Order ≡ false → breaks Access ≡ true → refused Access p ≡ judged_at breaks p
   unfolding judged_at in_order
   at_access c d e = rw (c, d, e) refl
 
-  pub at_none : breaks Range ≡ false → breaks Order ≡ false → breaks Access ≡ false → Admitted ≡ judged_at breaks p
+  pub at_none : breaks Range ≡ false → breaks Order ≡ false → breaks Access ≡ false → admitted ≡ judged_at breaks p
   unfolding judged_at in_order
   at_none c d e = rw (c, d, e) refl
 
@@ -171,7 +174,7 @@ module _ (n m : ℕ) (grid : List (List (List ℕ))) where
   unfoldable pub JudgedBelow : ℕ → Judged → Type 0
   JudgedBelow s found = found ≡ in_order (λ k. first_of (offender_at (system_in n m grid) k) s 0)
 
-  pub judged_none : JudgedBelow 0 Admitted
+  pub judged_none : JudgedBelow 0 admitted
   unfolding JudgedBelow in_order first_of
   judged_none = refl
 

@@ -15,12 +15,12 @@ use Rattle.table.specs.Parts.{subsystem_count, subsystem_of, task_count}
 use Rattle.rules.specs.declared.Rule.{Rule}
 use Rattle.rules.specs.declared.Rule.TheVariants.{Counts, Range, Order, Access, Overrun}
 use Rattle.rules.specs.declared.Place.{Place}
-use Rattle.rules.specs.declared.Judged.{Judged}
-use Rattle.rules.specs.declared.Judged.TheVariants.{Admitted, Refused}
+use Rattle.std.specs.Prelude.{Ok, Err}
+use Rattle.rules.specs.Judged.{Judged, admitted, refused}
 use Rattle.rules.specs.Refusal.{number_of}
 use Rattle.rules.specs.Rules.{table_breaks, place_breaks, offender_in, offender_at, offender, place, refused_at, judged_by, unless_refused, judged_past_counts, judge_of}
 use Rattle.rules.specs.Exactly.{Breaks, whole, part, Earlier, FirstBreak}
-use Rattle.rules.proofs.OrderLaws.{passed_rule, mapped_none}
+use Rattle.rules.proofs.OrderLaws.{refused_names, passed_rule, mapped_none}
 
 ------------------------------------------------------------------------
 -- One rule
@@ -40,7 +40,7 @@ not_both : (b : Bool) → b ≡ false → b ≡ true → ⊥
 not_both b f t = true≢false (sym t ∙ f)
 
 module _ (sys : System) (sound : table_breaks sys ≡ false) where
-  pub unbroken : (k : Rule) → judged_by sys k ≡ Admitted → Unbroken sys k
+  pub unbroken : (k : Rule) → judged_by sys k ≡ admitted → Unbroken sys k
   unbroken k e s i b =
       ⊎_elim (λ (w : table_breaks sys ≡ true). not_both _ sound w)
       (λ (p : (r : ℕ) × (s ≡ r + 1) × (r < subsystem_count sys) × (i ≤ task_count (subsystem_of sys r)) × (place_breaks sys.resources k (subsystem_of sys r) i ≡ true)).
@@ -84,7 +84,7 @@ module _ (sys : System) (sound : table_breaks sys ≡ false) where
 
   -- A refusal by rule k alone names that rule, and the first place that breaks it.
   pub refused_by_rule :
-      (k k' : Rule) (s i : ℕ) → judged_by sys k ≡ Refused k' (place s i) →
+      (k k' : Rule) (s i : ℕ) → judged_by sys k ≡ refused k' (place s i) →
       (k ≡ k') × Breaks sys k s i × ((s' i' : ℕ) → Earlier s' i' s i → Breaks sys k s' i' → ⊥)
   unfolding judged_by offender offender_at
   refused_by_rule k k' s i e = go (offender sys k) refl e
@@ -99,24 +99,23 @@ module _ (sys : System) (sound : table_breaks sys ≡ false) where
           let x = found_first k r j p f q in
           rw (← ap (λ (w : Place). w.subsystem) same, ← ap (λ (w : Place). w.task) same) (g, x.0, x.1)
 
-      go : (o : Option Place) → offender sys k ≡ o → refused_at k o ≡ Refused k' (place s i) → Answer
+      go : (o : Option Place) → offender sys k ≡ o → refused_at k o ≡ refused k' (place s i) → Answer
       go none q m = let z : ◌≡◌ {A = ℕ} 0 1 = cc in absurd (omega arith)
       go (some p) q m =
           let r = first_of_means (offender_at sys k) (subsystem_count sys) 0 p q in
-          let g : k ≡ k' = cc in
-          let h : p ≡ place s i = cc in inside r.0 p r.1 g h _ refl r.1.gives
+          let same = refused_names k k' p (place s i) m in inside r.0 p r.1 same.0 same.1 _ refl r.1.gives
 
 ------------------------------------------------------------------------
 -- The rules in order
 
 -- A refusal comes from the first judge, or the first admits and it comes from the rest.
-whose : (x rest : Judged) (k : Rule) (p : Place) → unless_refused x rest ≡ Refused k p → (x ≡ Refused k p) ⊎ ((x ≡ Admitted) × (rest ≡ Refused k p))
-whose (Refused j q) rest k p e = inl e
-whose Admitted rest k p e = inr (refl, e)
+whose : (x rest : Judged) (k : Rule) (p : Place) → unless_refused x rest ≡ refused k p → (x ≡ refused k p) ⊎ ((x ≡ admitted) × (rest ≡ refused k p))
+whose (Err r) rest k p e = inl e
+whose (Ok _) rest k p e = inr (refl, e)
 
-both_admit : (x rest : Judged) → unless_refused x rest ≡ Admitted → (x ≡ Admitted) × (rest ≡ Admitted)
-both_admit (Refused j q) rest e = let z : ◌≡◌ {A = ℕ} 0 1 = cc in absurd (omega arith)
-both_admit Admitted rest e = (refl, e)
+both_admit : (x rest : Judged) → unless_refused x rest ≡ admitted → (x ≡ admitted) × (rest ≡ admitted)
+both_admit (Err r) rest e = let z : ◌≡◌ {A = ℕ} 0 1 = cc in absurd (omega arith)
+both_admit (Ok _) rest e = (refl, e)
 
 -- The rules before each, as far as they are unbroken.
 module _ (sys : System) where
@@ -160,52 +159,51 @@ module _ (sys : System) where
 
 -- A refusal by rule k, where all earlier rules are unbroken, is the first break.
 first_by :
-    (sys : System) → table_breaks sys ≡ false → (k k' : Rule) (s i : ℕ) → judged_by sys k ≡ Refused k' (place s i) →
+    (sys : System) → table_breaks sys ≡ false → (k k' : Rule) (s i : ℕ) → judged_by sys k ≡ refused k' (place s i) →
     ((j : Rule) → number_of j < number_of k → Unbroken sys j) → FirstBreak sys k' s i
 first_by sys sound k k' s i e before =
     let r = refused_by_rule sys sound k k' s i e in
     rw (← r.0) (record { broken = r.1; first = r.2; foremost = before })
 
 module _ (sys : System) (sound : table_breaks sys ≡ false) where
-  past_counts : (k : Rule) (s i : ℕ) → Unbroken sys Counts → judged_past_counts sys ≡ Refused k (place s i) → FirstBreak sys k s i
+  past_counts : (k : Rule) (s i : ℕ) → Unbroken sys Counts → judged_past_counts sys ≡ refused k (place s i) → FirstBreak sys k s i
   unfolding judged_past_counts
   past_counts k s i counts e =
-      ⊎_elim (λ (r : judged_by sys Range ≡ Refused k (place s i)). first_by sys sound Range k s i r (before_range sys counts))
-      (λ (n : (judged_by sys Range ≡ Admitted) × (unless_refused (judged_by sys Order) (unless_refused (judged_by sys Access) (judged_by sys Overrun)) ≡ Refused k (place s i))).
+      ⊎_elim (λ (r : judged_by sys Range ≡ refused k (place s i)). first_by sys sound Range k s i r (before_range sys counts))
+      (λ (n : (judged_by sys Range ≡ admitted) × (unless_refused (judged_by sys Order) (unless_refused (judged_by sys Access) (judged_by sys Overrun)) ≡ refused k (place s i))).
       let range = unbroken sys sound Range n.0 in
-      ⊎_elim (λ (r : judged_by sys Order ≡ Refused k (place s i)). first_by sys sound Order k s i r (before_order sys counts range))
-      (λ (o : (judged_by sys Order ≡ Admitted) × (unless_refused (judged_by sys Access) (judged_by sys Overrun) ≡ Refused k (place s i))).
+      ⊎_elim (λ (r : judged_by sys Order ≡ refused k (place s i)). first_by sys sound Order k s i r (before_order sys counts range))
+      (λ (o : (judged_by sys Order ≡ admitted) × (unless_refused (judged_by sys Access) (judged_by sys Overrun) ≡ refused k (place s i))).
       let order = unbroken sys sound Order o.0 in
-      ⊎_elim (λ (r : judged_by sys Access ≡ Refused k (place s i)). first_by sys sound Access k s i r (before_access sys counts range order))
-      (λ (a : (judged_by sys Access ≡ Admitted) × (judged_by sys Overrun ≡ Refused k (place s i))).
+      ⊎_elim (λ (r : judged_by sys Access ≡ refused k (place s i)). first_by sys sound Access k s i r (before_access sys counts range order))
+      (λ (a : (judged_by sys Access ≡ admitted) × (judged_by sys Overrun ≡ refused k (place s i))).
       first_by sys sound Overrun k s i a.1 (before_overrun sys counts range order (unbroken sys sound Access a.0)))
       (whose _ _ k _ o.1))
       (whose _ _ k _ n.1))
       (whose _ _ k _ e)
 
 -- A refusal names the first break.
-pub refusal_is_first : (sys : System) (k : Rule) (s i : ℕ) → judge_of sys ≡ Refused k (place s i) → FirstBreak sys k s i
+pub refusal_is_first : (sys : System) (k : Rule) (s i : ℕ) → judge_of sys ≡ refused k (place s i) → FirstBreak sys k s i
 unfolding judge_of Earlier
 refusal_is_first sys k s i e = go (table_breaks sys) refl e
   where
     nothing_earlier : (s' i' : ℕ) → (s' < 0) ⊎ ((s' ≡ 0) × (i' < 0)) → Breaks sys Counts s' i' → ⊥
     nothing_earlier s' i' o b = ⊎_elim (λ (h : s' < 0). omega arith) (λ (h : (s' ≡ 0) × (i' < 0)). omega arith) o
 
-    go : (b : Bool) → table_breaks sys ≡ b → cond b (Refused Counts (place 0 0)) (unless_refused (judged_by sys Counts) (judged_past_counts sys)) ≡ Refused k (place s i) → FirstBreak sys k s i
+    go : (b : Bool) → table_breaks sys ≡ b → cond b (refused Counts (place 0 0)) (unless_refused (judged_by sys Counts) (judged_past_counts sys)) ≡ refused k (place s i) → FirstBreak sys k s i
     go true t q =
-        let a : Counts ≡ k = cc in
-        let p : place 0 0 ≡ place s i = cc in
-        rw (← a, ← ap (λ (w : Place). w.subsystem) p, ← ap (λ (w : Place). w.task) p)
+        let same = refused_names Counts k (place 0 0) (place s i) q in
+        rw (← same.0, ← ap (λ (w : Place). w.subsystem) same.1, ← ap (λ (w : Place). w.task) same.1)
         (record { broken = whole t; first = nothing_earlier; foremost = before_counts sys })
     go false t q =
-        ⊎_elim (λ (r : judged_by sys Counts ≡ Refused k (place s i)). first_by sys t Counts k s i r (before_counts sys))
-        (λ (n : (judged_by sys Counts ≡ Admitted) × (judged_past_counts sys ≡ Refused k (place s i))).
+        ⊎_elim (λ (r : judged_by sys Counts ≡ refused k (place s i)). first_by sys t Counts k s i r (before_counts sys))
+        (λ (n : (judged_by sys Counts ≡ admitted) × (judged_past_counts sys ≡ refused k (place s i))).
         past_counts sys t k s i (unbroken sys t Counts n.0) n.1)
         (whose _ _ k _ q)
 
 past_counts_admits :
-    (sys : System) → judged_past_counts sys ≡ Admitted →
-    (judged_by sys Range ≡ Admitted) × (judged_by sys Order ≡ Admitted) × (judged_by sys Access ≡ Admitted) × (judged_by sys Overrun ≡ Admitted)
+    (sys : System) → judged_past_counts sys ≡ admitted →
+    (judged_by sys Range ≡ admitted) × (judged_by sys Order ≡ admitted) × (judged_by sys Access ≡ admitted) × (judged_by sys Overrun ≡ admitted)
 unfolding judged_past_counts
 past_counts_admits sys e =
     let r = both_admit (judged_by sys Range) _ e in
@@ -213,18 +211,18 @@ past_counts_admits sys e =
     let a = both_admit (judged_by sys Access) _ o.1 in (r.0, o.0, a.0, a.1)
 
 -- In an admitted table nothing is broken.
-pub admitted_is_unbroken : (sys : System) → judge_of sys ≡ Admitted → (k : Rule) (s i : ℕ) → Breaks sys k s i → ⊥
+pub admitted_is_unbroken : (sys : System) → judge_of sys ≡ admitted → (k : Rule) (s i : ℕ) → Breaks sys k s i → ⊥
 unfolding judge_of
 admitted_is_unbroken sys e k = go (table_breaks sys) refl e
   where
-    rest : table_breaks sys ≡ false → unless_refused (judged_by sys Counts) (judged_past_counts sys) ≡ Admitted → (j : Rule) → Unbroken sys j
+    rest : table_breaks sys ≡ false → unless_refused (judged_by sys Counts) (judged_past_counts sys) ≡ admitted → (j : Rule) → Unbroken sys j
     rest t q Counts = unbroken sys t Counts (both_admit (judged_by sys Counts) (judged_past_counts sys) q).0
     rest t q Range = unbroken sys t Range (past_counts_admits sys (both_admit (judged_by sys Counts) (judged_past_counts sys) q).1).0
     rest t q Order = unbroken sys t Order (past_counts_admits sys (both_admit (judged_by sys Counts) (judged_past_counts sys) q).1).1
     rest t q Access = unbroken sys t Access (past_counts_admits sys (both_admit (judged_by sys Counts) (judged_past_counts sys) q).1).2
     rest t q Overrun = unbroken sys t Overrun (past_counts_admits sys (both_admit (judged_by sys Counts) (judged_past_counts sys) q).1).3
 
-    go : (b : Bool) → table_breaks sys ≡ b → cond b (Refused Counts (place 0 0)) (unless_refused (judged_by sys Counts) (judged_past_counts sys)) ≡ Admitted → Unbroken sys k
+    go : (b : Bool) → table_breaks sys ≡ b → cond b (refused Counts (place 0 0)) (unless_refused (judged_by sys Counts) (judged_past_counts sys)) ≡ admitted → Unbroken sys k
     go true t q = let z : ◌≡◌ {A = ℕ} 0 1 = cc in absurd (omega arith)
     go false t q = rest t q k
 
@@ -270,25 +268,27 @@ module _ (sys : System) where
       let q : s ≡ s' = omega (arith, a.0, b.0) in (q, omega (arith, a.1 q, b.1 (sym q)))
 
   -- Where a rule is broken first, that rule at that place is the judgement.
-  first_is_refused : (k : Rule) (s i : ℕ) → FirstBreak sys k s i → judge_of sys ≡ Refused k (place s i)
+  first_is_refused : (k : Rule) (s i : ℕ) → FirstBreak sys k s i → judge_of sys ≡ refused k (place s i)
   first_is_refused k s i f = go (judge_of sys) refl
     where
-      go : (j : Judged) → judge_of sys ≡ j → j ≡ Refused k (place s i)
-      go Admitted e = absurd (admitted_is_unbroken sys e k s i f.broken)
-      go (Refused h p) e =
-          let g = refusal_is_first sys h p.subsystem p.task e in
-          let a = one_rule h k p.subsystem p.task s i g f in
+      go : (j : Judged) → judge_of sys ≡ j → j ≡ refused k (place s i)
+      go (Ok _) e = absurd (admitted_is_unbroken sys e k s i f.broken)
+      go (Err r) e =
+          let p = r.place in
+          let g = refusal_is_first sys r.rule p.subsystem p.task e in
+          let a = one_rule r.rule k p.subsystem p.task s i g f in
           let q = one_place k p.subsystem p.task s i (rw (← a) g) f in rw (a, ← q.0, ← q.1)
 
   -- Rule k at place s i is the answer exactly when that place breaks rule k, no earlier place breaks it, and no earlier
   -- rule is broken anywhere.
-  pub refused_exactly : (k : Rule) (s i : ℕ) → (judge_of sys ≡ Refused k (place s i)) ↔ FirstBreak sys k s i
+  pub refused_exactly : (k : Rule) (s i : ℕ) → (judge_of sys ≡ refused k (place s i)) ↔ FirstBreak sys k s i
   refused_exactly k s i = (refusal_is_first sys k s i, first_is_refused k s i)
 
   -- Admitted exactly when nothing is broken.
-  pub admitted_exactly : (judge_of sys ≡ Admitted) ↔ ((k : Rule) (s i : ℕ) → Breaks sys k s i → ⊥)
+  pub admitted_exactly : (judge_of sys ≡ admitted) ↔ ((k : Rule) (s i : ℕ) → Breaks sys k s i → ⊥)
   admitted_exactly = (admitted_is_unbroken sys, λ h. go h (judge_of sys) refl)
     where
-      go : ((k : Rule) (s i : ℕ) → Breaks sys k s i → ⊥) → (j : Judged) → judge_of sys ≡ j → judge_of sys ≡ Admitted
-      go h Admitted e = e
-      go h (Refused k p) e = absurd (h k p.subsystem p.task (refusal_is_first sys k p.subsystem p.task e).broken)
+      go : ((k : Rule) (s i : ℕ) → Breaks sys k s i → ⊥) → (j : Judged) → judge_of sys ≡ j → judge_of sys ≡ admitted
+      go h (Ok _) e = e
+      go h (Err r) e =
+          absurd (h r.rule r.place.subsystem r.place.task (refusal_is_first sys r.rule r.place.subsystem r.place.task e).broken)

@@ -19,7 +19,7 @@ use Rattle.table.proofs.GridLaws.{subsystem_of_grid}
 use Rattle.rules.specs.declared.Rule.{Rule}
 use Rattle.rules.specs.declared.Rule.TheVariants.{Counts, Overrun}
 use Rattle.rules.specs.declared.Place.{Place}
-use Rattle.rules.specs.declared.Judged.TheVariants.{Admitted, Refused}
+use Rattle.rules.specs.Judged.{admitted, refused}
 use Rattle.rules.specs.Rules.{count_out, subsystem_breaks, task_breaks, place_breaks, offender_in, offender_at, offender, place, refused_at, judged_by}
 
 module _ (sys : System) (k : Rule) (n : ℕ) where
@@ -31,7 +31,7 @@ module _ (sys : System) (k : Rule) (n : ℕ) where
   unfolding OffendersFrom judged_by offender
   offenders_from_zero e = rw (e, sub-zero) refl
 
-  pub offender_here : (s : ℕ) (p : Place) → s < n → offender_at sys k s ≡ some p → OffendersFrom s → Refused k p ≡ judged_by sys k
+  pub offender_here : (s : ℕ) (p : Place) → s < n → offender_at sys k s ≡ some p → OffendersFrom s → refused k p ≡ judged_by sys k
   unfolding OffendersFrom
   offender_here s p h e q = sym (q ∙ ap (refused_at k) (first_of_here (offender_at sys k) n s p h e))
 
@@ -39,7 +39,7 @@ module _ (sys : System) (k : Rule) (n : ℕ) where
   unfolding OffendersFrom
   offenders_next s h e q = q ∙ ap (refused_at k) (first_of_next (offender_at sys k) n s h e)
 
-  pub offenders_over : (s : ℕ) → n ≤ s → OffendersFrom s → Admitted ≡ judged_by sys k
+  pub offenders_over : (s : ℕ) → n ≤ s → OffendersFrom s → admitted ≡ judged_by sys k
   unfolding OffendersFrom
   offenders_over s h q = sym (q ∙ ap (refused_at k) (first_of_over (offender_at sys k) n s h))
 

@@ -21,8 +21,8 @@ use Rattle.table.proofs.GridLaws.{count_of_block, count_of_grid, subsystem_of_gr
 use Rattle.rules.specs.declared.Rule.{Rule}
 use Rattle.rules.specs.declared.Rule.TheVariants.{Counts}
 use Rattle.rules.specs.declared.Place.{Place}
-use Rattle.rules.specs.declared.Judged.{Judged}
-use Rattle.rules.specs.declared.Judged.TheVariants.{Admitted, Refused}
+use Rattle.rules.specs.declared.Broken.{Broken}
+use Rattle.rules.specs.Judged.{Judged, admitted, refused}
 use Rattle.rules.specs.Rules.{count_out, table_breaks, subsystem_breaks, place_breaks, offender_in, offender_at, offender, place, refused_at, judged_by, unless_refused, judged_past_counts, counts_judged, judge_of, judge_one_of}
 use Rattle.rules.proofs.JudgingLaws.{own_nowhere, no_task_counts}
 use Rattle.rules.specs.Slots.{CountedSystem, CountedTable, CountedGrid}
@@ -30,15 +30,21 @@ use Rattle.rules.specs.Slots.{CountedSystem, CountedTable, CountedGrid}
 ------------------------------------------------------------------------
 -- The order
 
-pub refused_not_admitted : (k : Rule) (p : Place) → Refused k p ≡ Admitted → ⊥
+pub refused_not_admitted : (k : Rule) (p : Place) → refused k p ≡ admitted → ⊥
 refused_not_admitted k p e = let z : ◌≡◌ {A = ℕ} 0 1 = cc in absurd (omega arith)
 
+-- A refusal names one rule and one place.
+pub refused_names : (k k' : Rule) (p p' : Place) → refused k p ≡ refused k' p' → (k ≡ k') × (p ≡ p')
+refused_names k k' p p' e =
+    let same : ◌≡◌ {A = Broken} (record { rule = k; place = p }) (record { rule = k'; place = p' }) = cc in
+    (ap (λ (r : Broken). r.rule) same, ap (λ (r : Broken). r.place) same)
+
 -- A refusal stands.
-pub refusal_stands : (j x next : Judged) (k : Rule) (p : Place) → j ≡ x → j ≡ Refused k p → j ≡ unless_refused x next
+pub refusal_stands : (j x next : Judged) (k : Rule) (p : Place) → j ≡ x → j ≡ refused k p → j ≡ unless_refused x next
 refusal_stands j x next k p e r = r ∙ ap (λ (y : Judged). unless_refused y next) (sym r ∙ e)
 
 -- Where there is none, the next rule judges.
-pub next_judges : (j x next : Judged) → j ≡ x → j ≡ Admitted → unless_refused x next ≡ next
+pub next_judges : (j x next : Judged) → j ≡ x → j ≡ admitted → unless_refused x next ≡ next
 next_judges j x next e a = ap (λ (y : Judged). unless_refused y next) (sym e ∙ a)
 
 ------------------------------------------------------------------------
@@ -60,14 +66,14 @@ unfolding table_breaks meaning
 table_by t = ap (λ (n : ℕ). count_out n || ltb most t.resources) (count_of_subsystems t)
 
 module _ (t : Table) (b : Bool) (e : b ≡ count_out t.count) where
-  whole_refused : table_breaks (meaning t) ≡ true → Refused Counts (place 0 0) ≡ counts_judged (meaning t)
+  whole_refused : table_breaks (meaning t) ≡ true → refused Counts (place 0 0) ≡ counts_judged (meaning t)
   unfolding counts_judged
   whole_refused h = rw h
 
-  pub refused_by_n : b ≡ true → Refused Counts (place 0 0) ≡ counts_judged (meaning t)
+  pub refused_by_n : b ≡ true → refused Counts (place 0 0) ≡ counts_judged (meaning t)
   refused_by_n h = whole_refused (table_by t ∙ rw (← e, h))
 
-  pub refused_by_m : b ≡ false → most < t.resources → Refused Counts (place 0 0) ≡ counts_judged (meaning t)
+  pub refused_by_m : b ≡ false → most < t.resources → refused Counts (place 0 0) ≡ counts_judged (meaning t)
   refused_by_m h l = whole_refused (table_by t ∙ rw (← e, h) (lt-ltb most t.resources l))
 
   -- N and M are in range: each n decides.
@@ -85,23 +91,23 @@ pub counts_first : (sys : System) → unless_refused (counts_judged sys) (judged
 unfolding counts_judged judge_of
 counts_first sys = go (table_breaks sys)
   where
-    go : (b : Bool) → unless_refused (cond b (Refused Counts (place 0 0)) (judged_by sys Counts)) (judged_past_counts sys) ≡ cond b (Refused Counts (place 0 0)) (unless_refused (judged_by sys Counts) (judged_past_counts sys))
+    go : (b : Bool) → unless_refused (cond b (refused Counts (place 0 0)) (judged_by sys Counts)) (judged_past_counts sys) ≡ cond b (refused Counts (place 0 0)) (unless_refused (judged_by sys Counts) (judged_past_counts sys))
     go true = refl
     go false = refl
 
 -- Where rule 1 refuses nothing, the rest decides.
-pub past_counts : (sys : System) → counts_judged sys ≡ Admitted → judged_past_counts sys ≡ judge_of sys
+pub past_counts : (sys : System) → counts_judged sys ≡ admitted → judged_past_counts sys ≡ judge_of sys
 past_counts sys e = ap (λ (j : Judged). unless_refused j (judged_past_counts sys)) (sym e) ∙ counts_first sys
 
 ------------------------------------------------------------------------
 -- What rule 1 gives the rules after it
 
 -- Where rule k refuses nothing, it has no offender, in no subsystem and at no place.
-no_offender : (sys : System) (k : Rule) → judged_by sys k ≡ Admitted → offender sys k ≡ none
+no_offender : (sys : System) (k : Rule) → judged_by sys k ≡ admitted → offender sys k ≡ none
 unfolding judged_by
 no_offender sys k e = go (offender sys k) e
   where
-    go : (o : Option Place) → refused_at k o ≡ Admitted → o ≡ none
+    go : (o : Option Place) → refused_at k o ≡ admitted → o ≡ none
     go none q = refl
     go (some p) q = let z : ◌≡◌ {A = ℕ} 0 1 = cc in absurd (omega arith)
 
@@ -110,7 +116,7 @@ pub mapped_none : {A B : Type 0} (f : A → B) (o : Option A) → map f o ≡ no
 mapped_none f none e = refl
 mapped_none f (some a) e = absurd (some-ne-none (f a) e)
 
-pub passed_rule : (sys : System) (k : Rule) → judged_by sys k ≡ Admitted → (s : ℕ) → s < subsystem_count sys → (i : ℕ) → i ≤ task_count (subsystem_of sys s) → place_breaks sys.resources k (subsystem_of sys s) i ≡ false
+pub passed_rule : (sys : System) (k : Rule) → judged_by sys k ≡ admitted → (s : ℕ) → s < subsystem_count sys → (i : ℕ) → i ≤ task_count (subsystem_of sys s) → place_breaks sys.resources k (subsystem_of sys s) i ≡ false
 unfolding offender offender_at offender_in
 passed_rule sys k e s h i l =
     first_such_none (place_breaks sys.resources k (subsystem_of sys s)) (suc (task_count (subsystem_of sys s))) 0
@@ -118,16 +124,16 @@ passed_rule sys k e s h i l =
     i (omega arith) (omega arith)
 
 -- What rule 1 passes as a whole.
-counts_passed : (sys : System) → counts_judged sys ≡ Admitted → (table_breaks sys ≡ false) × (judged_by sys Counts ≡ Admitted)
+counts_passed : (sys : System) → counts_judged sys ≡ admitted → (table_breaks sys ≡ false) × (judged_by sys Counts ≡ admitted)
 unfolding counts_judged
 counts_passed sys e = go (table_breaks sys) refl e
   where
-    go : (b : Bool) → table_breaks sys ≡ b → cond b (Refused Counts (place 0 0)) (judged_by sys Counts) ≡ Admitted → (table_breaks sys ≡ false) × (judged_by sys Counts ≡ Admitted)
+    go : (b : Bool) → table_breaks sys ≡ b → cond b (refused Counts (place 0 0)) (judged_by sys Counts) ≡ admitted → (table_breaks sys ≡ false) × (judged_by sys Counts ≡ admitted)
     go true p q = let z : ◌≡◌ {A = ℕ} 0 1 = cc in absurd (omega arith)
     go false p q = (p, q)
 
 -- The systems that rule 1 passes have counts in range.
-pub counted_system : (sys : System) → counts_judged sys ≡ Admitted → CountedSystem sys
+pub counted_system : (sys : System) → counts_judged sys ≡ admitted → CountedSystem sys
 unfolding table_breaks place_breaks subsystem_breaks
 counted_system sys e =
     record {
@@ -138,7 +144,7 @@ counted_system sys e =
       tasks_most = λ s h. (in_range _ (own s h)).1;
     }
   where
-    passed : (table_breaks sys ≡ false) × (judged_by sys Counts ≡ Admitted)
+    passed : (table_breaks sys ≡ false) × (judged_by sys Counts ≡ admitted)
     passed = counts_passed sys e
 
     whole : (count_out (subsystem_count sys) ≡ false) × (ltb most sys.resources ≡ false)
@@ -148,7 +154,7 @@ counted_system sys e =
     own s h = passed_rule sys Counts passed.1 s h 0 (omega arith)
 
 -- And those with counts in range it passes.
-pub counts_admit : (sys : System) → CountedSystem sys → counts_judged sys ≡ Admitted
+pub counts_admit : (sys : System) → CountedSystem sys → counts_judged sys ≡ admitted
 unfolding counts_judged table_breaks judged_by offender offender_at subsystem_breaks
 counts_admit sys c = rw (in_counts _ c.subsystems_least c.subsystems_most, le-ltb most sys.resources c.resources_most, nowhere) refl
   where
@@ -163,7 +169,7 @@ counts_admit sys c = rw (in_counts _ c.subsystems_least c.subsystems_most, le-lt
         ap (map (place (s + 1))) (own_nowhere sys.resources Counts (no_task_counts sys.resources) (subsystem_of sys s) (in_counts _ (c.some_task s k) (c.tasks_most s k))))
 
 -- The same of a table's own counts.
-pub counted_table : (t : Table) → counts_judged (meaning t) ≡ Admitted → CountedTable t
+pub counted_table : (t : Table) → counts_judged (meaning t) ≡ admitted → CountedTable t
 unfolding meaning
 counted_table t e =
     record {
@@ -181,7 +187,7 @@ counted_table t e =
     tasks s h = ap task_count (subsystem_of_slot t s h) ∙ count_of_tasks t.resources (get_or t.subsystems s past_subsystems)
 
 -- And of a grid's.
-pub counted_grid : (grid : List (List (List ℕ))) (n m : ℕ) → counts_judged (system_in n m grid) ≡ Admitted → CountedGrid grid n m
+pub counted_grid : (grid : List (List (List ℕ))) (n m : ℕ) → counts_judged (system_in n m grid) ≡ admitted → CountedGrid grid n m
 unfolding system_in
 counted_grid grid n m e =
     record {
@@ -202,7 +208,7 @@ counted_grid grid n m e =
     tasks s h = ap task_count (subsystem_of_grid n m grid s h) ∙ count_of_block m (block_in grid s)
 
 -- A grid has room for a table that rule 1 has passed, and what it means then, with the counts as the code hands them on.
-pub has_room : (t : Table) → counts_judged (meaning t) ≡ Admitted → HasRoom t
+pub has_room : (t : Table) → counts_judged (meaning t) ≡ admitted → HasRoom t
 has_room t e = let c = counted_table t e in record { subsystems_most = c.subsystems_most; resources_most = c.resources_most; tasks_most = c.tasks_most }
 
 pub laid_out_means :
@@ -217,6 +223,6 @@ pub one_judged : (t : Table) (j : Judged) → t.count ≡ 1 → j ≡ judge_of (
 unfolding judge_one_of
 one_judged t j h e = rw (count_of_subsystems t, eq-eqb t.count 1 h) e
 
-pub one_refused : (t : Table) → (t.count ≡ 1 → ⊥) → Refused Counts (place 0 0) ≡ judge_one_of (meaning t)
+pub one_refused : (t : Table) → (t.count ≡ 1 → ⊥) → refused Counts (place 0 0) ≡ judge_one_of (meaning t)
 unfolding judge_one_of
 one_refused t h = rw (count_of_subsystems t, ne_eqb t.count 1 h)

@@ -18,7 +18,7 @@ use Rattle.table.specs.Parts.{subsystem_count, subsystem_of, task_count, task_of
 use Rattle.holding.specs.Holding.{uses, inner_ceiling, work_above, task_holding, resource_holding, holding}
 use Rattle.rules.specs.declared.Rule.{Rule}
 use Rattle.rules.specs.declared.Rule.TheVariants.{Counts, Range, Order, Access, Overrun}
-use Rattle.rules.specs.declared.Judged.TheVariants.{Admitted}
+use Rattle.rules.specs.Judged.{admitted}
 use Rattle.rules.specs.Rules.{count_out, time_out, access_within, some_access_above, table_breaks, subsystem_breaks, task_breaks, place_breaks, judge_of}
 use Rattle.rules.specs.Admitted.{SoundTask, SoundSubsystem, SoundSystem}
 use Rattle.rules.specs.Exactly.{whole, part}
@@ -44,13 +44,13 @@ no_access_past m limit t e l h = leb-true (access_of t l) limit (all_to_means (a
     not_not true q = refl
     not_not false q = absurd (true≢false q)
 
-module _ (sys : System) (admitted : judge_of sys ≡ Admitted) where
+module _ (sys : System) (passed : judge_of sys ≡ admitted) where
   not_broken : (k : Rule) (s : ℕ) → s < subsystem_count sys → (i : ℕ) → i ≤ task_count (subsystem_of sys s) → place_breaks sys.resources k (subsystem_of sys s) i ≡ false
-  not_broken k s h i l = not_true _ (λ e. admitted_is_unbroken sys admitted k (s + 1) i (part k s i h l e))
+  not_broken k s h i l = not_true _ (λ e. admitted_is_unbroken sys passed k (s + 1) i (part k s i h l e))
 
   counts_pass : (count_out (subsystem_count sys) ≡ false) × (ltb most sys.resources ≡ false)
   unfolding table_breaks
-  counts_pass = neither _ _ (not_true (table_breaks sys) (λ e. admitted_is_unbroken sys admitted Counts 0 0 (whole e)))
+  counts_pass = neither _ _ (not_true (table_breaks sys) (λ e. admitted_is_unbroken sys passed Counts 0 0 (whole e)))
 
   module _ (s : ℕ) (h : s < subsystem_count sys) where
     sound_task : (i : ℕ) → i < task_count (subsystem_of sys s) → SoundTask sys.resources (task_of (subsystem_of sys s) i)
@@ -101,7 +101,7 @@ module _ (sys : System) (admitted : judge_of sys ≡ Admitted) where
 
 -- In an admitted table Q + X ≤ P for each subsystem, hence 1 ≤ Q ≤ E ≤ P with E = P − X.
 pub budget_before_overrun :
-    (sys : System) → judge_of sys ≡ Admitted → (s : ℕ) → s < subsystem_count sys →
+    (sys : System) → judge_of sys ≡ admitted → (s : ℕ) → s < subsystem_count sys →
     let v = subsystem_of sys s in
     let x = holding sys.resources v in
     (v.budget + x ≤ v.period) × (1 ≤ v.budget) × (v.budget ≤ v.period - x) × (v.period - x ≤ v.period)

@@ -3,4 +3,4 @@ use Rattle.rules.proofs.EarlierLaws.{JudgedTo}
 use Rattle.rules.proofs.places.judged_subsystem.Given as goal
 
 abbrev pub invariant-loop-i : goal.invariant-loop-i
-invariant-loop-i l = JudgedTo l.m l.subsystem l.block l.i l.found
+invariant-loop-i l = JudgedTo l.part.m l.subsystem l.part.block.now l.i l.found
