@@ -10,7 +10,7 @@ ghost use Rattle.table.specs.Zeros.{zero_task, zero_subsystem, zero_table};
 pub mod grid;
 
 // A task: minimum separation T, work C, deadline D, and for each resource its longest access c, 0 meaning no access.
-#[derive(Clone, Copy)]
+#[derive(Clone, Copy, Default)]
 pub struct Task {
     pub separation: u32,
     pub work: u32,
@@ -20,7 +20,7 @@ pub struct Task {
 
 // A subsystem: period P, budget Q, and its tasks, of which the first `count` are used. A lower index is a higher
 // priority.
-#[derive(Clone, Copy)]
+#[derive(Clone, Copy, Default)]
 pub struct Subsystem {
     pub period: u32,
     pub budget: u32,
@@ -29,7 +29,7 @@ pub struct Subsystem {
 }
 
 // A table: N subsystems in use, M resources in use, and the subsystems. Slots past the counts may hold anything.
-#[derive(Clone, Copy)]
+#[derive(Clone, Copy, Default)]
 pub struct Table {
     pub count: u8,
     pub resources: u8,
@@ -48,11 +48,7 @@ impl Table {
     pub fn zeros() -> Table
         ensures { result ≡ zero_table }
     {
-        Table {
-            count: 0,
-            resources: 0,
-            subsystems: [Subsystem::zeros(); Table::MOST],
-        }
+        Table::default()
     }
 }
 
@@ -61,12 +57,7 @@ impl Subsystem {
     pub fn zeros() -> Subsystem
         ensures { result ≡ zero_subsystem }
     {
-        Subsystem {
-            period: 0,
-            budget: 0,
-            count: 0,
-            tasks: [Task::zeros(); Table::MOST],
-        }
+        Subsystem::default()
     }
 }
 
@@ -75,12 +66,7 @@ impl Task {
     pub fn zeros() -> Task
         ensures { result ≡ zero_task }
     {
-        Task {
-            separation: 0,
-            work: 0,
-            deadline: 0,
-            access: [0; Table::MOST],
-        }
+        Task::default()
     }
 }
 
