@@ -11,8 +11,8 @@ use mathlib.Core.List.{List, [], ◌∷◌}
 use lib.Dec.{eqb}
 use lib.ListN.{length, take, drop, length-take}
 use lib.Seq.{take_all, take-take, take-nil, get_or-take}
+use Rattle.std.specs.Prelude.{Ok}
 use Rattle.lists.proofs.Over.{le_or_lt}
-use Rattle.stored.specs.declared.FieldAnswer.TheVariants.{Sound}
 use Rattle.stored.specs.declared.Fault.TheVariants.{OutOfRange}
 use Rattle.stored.specs.Numbers.{spelled}
 use Rattle.stored.specs.Field.{start_size, field_size, tag_of, stated_length, value_of}
@@ -53,7 +53,7 @@ judged_by_its_bytes tag due in_range one other a b t s v = by_tag (eqb (tag_of o
     by_length tagged true e =
         let stated = eqb-true (stated_length other) due e in
         judges_by_range tag due in_range one (omega arith) (t ∙ tagged) (s ∙ stated) (omega (arith, s, stated)) ∙
-        ap (λ (l : List ℕ). refuse_if (not (in_range l)) OutOfRange (Sound due)) v ∙
+        ap (λ (l : List ℕ). refuse_if (not (in_range l)) OutOfRange (Ok due)) v ∙
         sym (judges_by_range tag due in_range other (omega arith) tagged stated (omega (arith, stated)))
     by_length tagged false e =
         let ne = eqb-false (stated_length other) due e in

@@ -11,13 +11,13 @@ use mathlib.Core.Option.{Option, none, some}
 use mathlib.Core.List.{List}
 use lib.ListN.{length, take, drop, length-take}
 use lib.Seq.{take_all}
+use Rattle.std.specs.Prelude.{Ok, Err}
 use Rattle.lists.specs.Range.{or_else, first_of}
 use Rattle.lists.proofs.First.{first_of_ext, first_of_none}
 use Rattle.lists.proofs.Over.{le_or_lt}
 use Rattle.table.specs.Limits.{most}
 use Rattle.table.specs.declared.Subsystem.{Subsystem}
-use Rattle.stored.specs.declared.FieldAnswer.{FieldAnswer}
-use Rattle.stored.specs.declared.FieldAnswer.TheVariants.{Sound, Faulty}
+use Rattle.stored.specs.Answers.{FieldAnswer}
 use Rattle.stored.specs.Field.{field_size, value_of, header_tag, header_length, subsystem_tag, subsystem_length, task_tag, task_length}
 use Rattle.stored.specs.Judge.{header_in_range, subsystem_in_range, any_value, judge_field, judge_header, judge_subsystem}
 use Rattle.stored.specs.Decode.{decoded_header, decoded_subsystem}
@@ -89,8 +89,8 @@ module _ (file : List ℕ) where
         same = judged_alike subsystem_tag subsystem_length at subsystem_in_range (omega arith)
 
         go : (a : FieldAnswer) → judge_subsystem (drop at file) ≡ a → refusal_from first m at ≡ refusal_from file m at
-        go (Faulty f) e = rw (same, e) refl
-        go (Sound n) e =
+        go (Err f) e = rw (same, e) refl
+        go (Ok n) e =
             rw (same, e, head_alike at (omega arith))
             (first_of_ext (task_refusal first m at) (task_refusal file m at) (head_at file at).count 0
             (λ i l u. task_refused_alike at i h (omega (arith, (head_count_lem file at (sound_means subsystem_tag subsystem_length subsystem_in_range (drop at file) n e).1).1))))
@@ -147,8 +147,8 @@ module _ (file : List ℕ) where
   refusals_alike long = go (judge_header file) refl
     where
       go : (a : FieldAnswer) → judge_header file ≡ a → refusal_in first ≡ refusal_in file
-      go (Faulty f) e = rw (header_judged_alike, e) refl
-      go (Sound n) e =
+      go (Err f) e = rw (header_judged_alike, e) refl
+      go (Ok n) e =
           let within = header_counts file (sound_means header_tag header_length header_in_range file n e).1 in
           rw (header_judged_alike, e, header_alike)
           (body_refused_alike (header_in file).resources within.2 (header_in file).count within.1 long)

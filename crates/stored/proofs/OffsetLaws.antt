@@ -9,15 +9,14 @@ use mathlib.Core.Option.{Option, none, some}
 use mathlib.Core.List.{List}
 use lib.Dec.{ltb, leb, eqb}
 use lib.ListN.{length, get_or, drop}
+use Rattle.std.specs.Prelude.{Ok, Err}
 use Rattle.lists.specs.Range.{or_else, first_of}
 use Rattle.lists.proofs.First.{first_of_means, first_of_none}
 use Rattle.table.specs.Limits.{most}
 use Rattle.rules.specs.Rules.{count_out}
 use Rattle.stored.specs.declared.Fault.TheVariants.{LeftOver}
-use Rattle.stored.specs.declared.FieldAnswer.{FieldAnswer}
-use Rattle.stored.specs.declared.FieldAnswer.TheVariants.{Sound, Faulty}
 use Rattle.stored.specs.declared.FileRefusal.{FileRefusal}
-use Rattle.stored.specs.declared.ReadAnswer.{ReadAnswer}
+use Rattle.stored.specs.Answers.{FieldAnswer, ReadAnswer}
 use Rattle.stored.specs.Field.{field_size, value_of, version, header_tag, header_length, subsystem_tag, subsystem_length, task_length}
 use Rattle.stored.specs.Judge.{header_in_range, subsystem_in_range, judge_header, judge_subsystem, judge_task}
 use Rattle.stored.specs.Decode.{decoded_header, decoded_subsystem}
@@ -35,8 +34,8 @@ place_in (some r) = r.1
 -- A bound on each part is a bound on the first refusal
 
 field_at_most : (at : ℕ) (a : FieldAnswer) → place_in (refused_at at a) ≤ at
-field_at_most at (Sound n) = omega arith
-field_at_most at (Faulty f) = omega arith
+field_at_most at (Ok n) = omega arith
+field_at_most at (Err f) = omega arith
 
 either_at_most : (k : ℕ) (a b : Option Refusal) → place_in a ≤ k → (a ≡ none → place_in b ≤ k) → place_in (or_else a b) ≤ k
 either_at_most k none b h g = g refl

@@ -11,12 +11,12 @@ use mathlib.Core.List.{List, ◌++◌, append-nil, append_assoc, flat_map}
 use lib.Dec.{ltb}
 use lib.ListN.{length, take, drop}
 use lib.Seq.{take-add, take_all, drop-drop, get_or-drop}
+use Rattle.std.specs.Prelude.{Ok, Err}
 use Rattle.lists.specs.Range.{or_else, first_of, up_to}
 use Rattle.lists.proofs.First.{first_of_none}
 use Rattle.table.specs.Meaning.{task_at, subsystem_m, subsystem_at, meaning}
 use Rattle.stored.specs.declared.Fault.TheVariants.{LeftOver}
-use Rattle.stored.specs.declared.FieldAnswer.{FieldAnswer}
-use Rattle.stored.specs.declared.FieldAnswer.TheVariants.{Sound, Faulty}
+use Rattle.stored.specs.Answers.{FieldAnswer}
 use Rattle.stored.specs.Numbers.{AreBytes}
 use Rattle.stored.specs.Field.{start_size, field_size, field, value_of, header_tag, header_length, subsystem_tag, subsystem_length, task_tag, task_length}
 use Rattle.stored.specs.Judge.{header_in_range, subsystem_in_range, any_value, judge_field, judge_header, judge_subsystem}
@@ -36,9 +36,9 @@ pub neither_refused : (a b : Option Refusal) → or_else a b ≡ none → (a ≡
 neither_refused none b e = (refl, e)
 neither_refused (some r) b e = absurd (some-ne-none r e)
 
-unrefused_is_sound : (at : ℕ) (a : FieldAnswer) → refused_at at a ≡ none → (n : ℕ) × (a ≡ Sound n)
-unrefused_is_sound at (Sound n) e = (n, refl)
-unrefused_is_sound at (Faulty f) e = absurd (some-ne-none (f, at) e)
+unrefused_is_sound : (at : ℕ) (a : FieldAnswer) → refused_at at a ≡ none → (n : ℕ) × (a ≡ Ok n)
+unrefused_is_sound at (Ok n) e = (n, refl)
+unrefused_is_sound at (Err f) e = absurd (some-ne-none (f, at) e)
 
 pub sound_where_unrefused : (tag due at : ℕ) (in_range : List ℕ → Bool) (rest : List ℕ) → refused_at at (judge_field tag due in_range rest) ≡ none → SoundField tag due in_range rest
 sound_where_unrefused tag due at in_range rest e =

@@ -21,8 +21,7 @@ use Rattle.rules.specs.Rules.{counts_judged}
 use Rattle.rules.proofs.OrderLaws.{counted_table}
 use Rattle.stored.specs.declared.Fault.{Fault}
 use Rattle.stored.specs.declared.Fault.TheVariants.{Short}
-use Rattle.stored.specs.declared.ReadAnswer.TheVariants.{Whole, Refused as RefusedFile}
-use Rattle.stored.specs.declared.WriteAnswer.TheVariants.{Written, NoRoom}
+use Rattle.stored.specs.Answers.{whole, refused as refused_file, stands, no_room}
 use Rattle.stored.specs.Numbers.{AreBytes}
 use Rattle.stored.specs.Field.{field_size, header_length}
 use Rattle.stored.specs.File.{subsystem_bytes, file_of, largest_file}
@@ -38,32 +37,32 @@ use Rattle.stored.proofs.LongInput.{read_is_no_longer}
 ------------------------------------------------------------------------
 -- What an answer that refuses nothing says
 
-pub whole_is_unrefused : (o : Option Refusal) → whole_unless o ≡ Whole → o ≡ none
+pub whole_is_unrefused : (o : Option Refusal) → whole_unless o ≡ whole → o ≡ none
 whole_is_unrefused none e = refl
 whole_is_unrefused (some r) e = let z : ◌≡◌ {A = ℕ} 0 1 = cc in absurd (omega arith)
 
 -- A read that is whole refused nothing, and gives the table in the file.
-pub whole_reads_the_table : (file : List ℕ) → (read_of file).answer ≡ Whole → (refusal_in file ≡ none) × ((read_of file).table ≡ table_in file)
+pub whole_reads_the_table : (file : List ℕ) → (read_of file).answer ≡ whole → (refusal_in file ≡ none) × ((read_of file).table ≡ table_in file)
 unfolding read_of
 whole_reads_the_table file e =
     let clean = whole_is_unrefused (refusal_in file) e in (clean, ap (λ (o : Option Refusal). zeros_if o (table_in file)) clean)
 
-unrefused_is_whole : (file : List ℕ) → refusal_in file ≡ none → ((read_of file).answer ≡ Whole) × ((read_of file).table ≡ table_in file)
+unrefused_is_whole : (file : List ℕ) → refusal_in file ≡ none → ((read_of file).answer ≡ whole) × ((read_of file).table ≡ table_in file)
 unfolding read_of
 unrefused_is_whole file clean =
     (ap whole_unless clean, ap (λ (o : Option Refusal). zeros_if o (table_in file)) clean)
 
-by_room : (b : Bool) (n k : ℕ) → cond b NoRoom (Written k) ≡ Written n → (b ≡ false) × (k ≡ n)
+by_room : (b : Bool) (n k : ℕ) → cond b no_room (stands k) ≡ stands n → (b ≡ false) × (k ≡ n)
 by_room true n k e = let z : ◌≡◌ {A = ℕ} 0 1 = cc in absurd (omega arith)
 by_room false n k e = (refl, cc)
 
-by_counts : (j : Judged) (file : List ℕ) (room n : ℕ) → answer_for j file room ≡ Written n → (j ≡ Admitted) × (ltb room (length file) ≡ false) × (length file ≡ n)
+by_counts : (j : Judged) (file : List ℕ) (room n : ℕ) → answer_for j file room ≡ stands n → (j ≡ Admitted) × (ltb room (length file) ≡ false) × (length file ≡ n)
 by_counts (Refused k p) file room n e = let z : ◌≡◌ {A = ℕ} 0 1 = cc in absurd (omega arith)
 by_counts Admitted file room n e =
     let r = by_room (ltb room (length file)) n (length file) e in (refl, r.0, r.1)
 
 -- A write that refuses nothing has counts in range, and the file is what it put.
-pub written_is_the_file : (sys : System) (buf : List ℕ) (n : ℕ) → write_of sys (length buf) ≡ Written n → (counts_judged sys ≡ Admitted) × (length (file_of sys) ≡ n) × (take n (buffer_after sys buf) ≡ file_of sys)
+pub written_is_the_file : (sys : System) (buf : List ℕ) (n : ℕ) → write_of sys (length buf) ≡ stands n → (counts_judged sys ≡ Admitted) × (length (file_of sys) ≡ n) × (take n (buffer_after sys buf) ≡ file_of sys)
 unfolding write_of buffer_after written
 written_is_the_file sys buf n e =
     let r = by_counts (counts_judged sys) (file_of sys) (length buf) n e in
@@ -73,13 +72,13 @@ written_is_the_file sys buf n e =
 -- Reading, then writing
 
 -- A file that is read is the file of the table that is read.
-pub read_file_is_the_file : (file : List ℕ) → AreBytes file → (read_of file).answer ≡ Whole → file_of (meaning (read_of file).table) ≡ file
+pub read_file_is_the_file : (file : List ℕ) → AreBytes file → (read_of file).answer ≡ whole → file_of (meaning (read_of file).table) ≡ file
 read_file_is_the_file file bytes e =
     let r = whole_reads_the_table file e in
     ap (λ (t : Table). file_of (meaning t)) r.1 ∙ read_is_its_file file bytes r.0
 
 -- A file that is read is written as the same bytes, wherever neither call refuses.
-pub read_then_written_is_the_same_file : (file buf : List ℕ) (n : ℕ) → AreBytes file → (read_of file).answer ≡ Whole → write_of (meaning (read_of file).table) (length buf) ≡ Written n → (n ≡ length file) × (take n (buffer_after (meaning (read_of file).table) buf) ≡ file)
+pub read_then_written_is_the_same_file : (file buf : List ℕ) (n : ℕ) → AreBytes file → (read_of file).answer ≡ whole → write_of (meaning (read_of file).table) (length buf) ≡ stands n → (n ≡ length file) × (take n (buffer_after (meaning (read_of file).table) buf) ≡ file)
 read_then_written_is_the_same_file file buf n bytes e w =
     let same = read_file_is_the_file file bytes e in
     let r = written_is_the_file (meaning (read_of file).table) buf n w in
@@ -89,7 +88,7 @@ read_then_written_is_the_same_file file buf n bytes e w =
 -- Writing, then reading
 
 -- The file of a table with counts in range is read whole, as a table that means the same.
-pub file_reads_as_the_same_meaning : (t : Table) → Held (meaning t) → counts_judged (meaning t) ≡ Admitted → ((read_of (file_of (meaning t))).answer ≡ Whole) × MeanTheSame (read_of (file_of (meaning t))).table t
+pub file_reads_as_the_same_meaning : (t : Table) → Held (meaning t) → counts_judged (meaning t) ≡ Admitted → ((read_of (file_of (meaning t))).answer ≡ whole) × MeanTheSame (read_of (file_of (meaning t))).table t
 unfolding MeanTheSame
 file_reads_as_the_same_meaning t held counts =
     let c = counted_table t counts in
@@ -97,7 +96,7 @@ file_reads_as_the_same_meaning t held counts =
     (r.0, ap meaning r.1 ∙ written_means_the_same t c.subsystems_least c held)
 
 -- A table that is written reads back as one that means the same; the read refuses nothing that was written.
-pub written_then_read_means_the_same : (t : Table) (buf : List ℕ) (n : ℕ) → Held (meaning t) → write_of (meaning t) (length buf) ≡ Written n → ((read_of (take n (buffer_after (meaning t) buf))).answer ≡ Whole) × MeanTheSame (read_of (take n (buffer_after (meaning t) buf))).table t
+pub written_then_read_means_the_same : (t : Table) (buf : List ℕ) (n : ℕ) → Held (meaning t) → write_of (meaning t) (length buf) ≡ stands n → ((read_of (take n (buffer_after (meaning t) buf))).answer ≡ whole) × MeanTheSame (read_of (take n (buffer_after (meaning t) buf))).table t
 written_then_read_means_the_same t buf n held w =
     let r = written_is_the_file (meaning t) buf n w in
     rw r.2 (file_reads_as_the_same_meaning t held r.0)
@@ -124,7 +123,7 @@ same_file_same_meaning t u held-t held-u counts-t counts-u e =
     (file_reads_as_the_same_meaning u held-u counts-u).1
 
 -- No two files read as tables that mean the same.
-pub same_reading_same_file : (one other : List ℕ) → AreBytes one → AreBytes other → (read_of one).answer ≡ Whole → (read_of other).answer ≡ Whole → MeanTheSame (read_of one).table (read_of other).table → one ≡ other
+pub same_reading_same_file : (one other : List ℕ) → AreBytes one → AreBytes other → (read_of one).answer ≡ whole → (read_of other).answer ≡ whole → MeanTheSame (read_of one).table (read_of other).table → one ≡ other
 same_reading_same_file one other bytes_one bytes-other whole-one whole-other e =
     sym (read_file_is_the_file one bytes_one whole-one) ∙
     same_meaning_same_file (read_of one).table (read_of other).table e ∙
@@ -134,16 +133,16 @@ same_reading_same_file one other bytes_one bytes-other whole-one whole-other e =
 -- Refused reads
 
 -- A refused read gives a table of zeros.
-pub refused_read_gives_zeros : (file : List ℕ) (f : Fault) (at : ℕ) → (read_of file).answer ≡ RefusedFile f at → (read_of file).table ≡ zero_table
+pub refused_read_gives_zeros : (file : List ℕ) (f : Fault) (at : ℕ) → (read_of file).answer ≡ refused_file f at → (read_of file).table ≡ zero_table
 unfolding read_of
 refused_read_gives_zeros file f at e = go (refusal_in file) e
   where
-    go : (o : Option Refusal) → whole_unless o ≡ RefusedFile f at → zeros_if o (table_in file) ≡ zero_table
+    go : (o : Option Refusal) → whole_unless o ≡ refused_file f at → zeros_if o (table_in file) ≡ zero_table
     go none q = let z : ◌≡◌ {A = ℕ} 0 1 = cc in absurd (omega arith)
     go (some r) q = refl
 
 -- The empty file: 11 at 0.
-pub empty_file_is_short_at_0 : (read_of []).answer ≡ RefusedFile Short 0
+pub empty_file_is_short_at_0 : (read_of []).answer ≡ refused_file Short 0
 unfolding read_of refusal_in judge_field
 empty_file_is_short_at_0 = refl
 

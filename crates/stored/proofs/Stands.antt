@@ -6,8 +6,8 @@ use mathlib.Core.Bool.{Bool, true}
 use mathlib.Core.List.{List, [], ◌++◌, append_assoc, append-nil, flat_map}
 use lib.ListN.{length, drop}
 use lib.Seq.{drop_at, drop-drop}
+use Rattle.std.specs.Prelude.{Ok}
 use Rattle.lists.specs.Range.{up_to}
-use Rattle.stored.specs.declared.FieldAnswer.TheVariants.{Sound}
 use Rattle.stored.specs.Field.{field, value_of}
 use Rattle.stored.specs.Judge.{judge_field}
 use Rattle.stored.proofs.Judging.{sound_is}
@@ -43,7 +43,7 @@ module _ (file : List ℕ) (at : ℕ) where
 
   -- A field where it is due is sound, and its value is the one that was put.
   module _ (tag due : ℕ) (v : List ℕ) (size : length v ≡ due) (st : Stands file at (field tag v)) where
-    pub field_judged : (in_range : List ℕ → Bool) → due < 65536 → in_range v ≡ true → judge_field tag due in_range (drop at file) ≡ Sound due
+    pub field_judged : (in_range : List ℕ → Bool) → due < 65536 → in_range v ≡ true → judge_field tag due in_range (drop at file) ≡ Ok due
     field_judged in_range h r =
         ap (judge_field tag due in_range) st.1 ∙
         sound_is tag due in_range (field tag v ++ st.0) (field_is_sound tag due v st.0 size in_range h r)

@@ -15,7 +15,7 @@ use Rattle.table.proofs.Parts.{count_of_subsystems}
 use Rattle.rules.specs.declared.Judged.TheVariants.{Admitted}
 use Rattle.rules.specs.Rules.{counts_judged}
 use Rattle.rules.proofs.OrderLaws.{counts_admit}
-use Rattle.stored.specs.declared.ReadAnswer.TheVariants.{Whole}
+use Rattle.stored.specs.Answers.{whole}
 use Rattle.stored.specs.Field.{header_tag, header_length, subsystem_tag, subsystem_length}
 use Rattle.stored.specs.Judge.{header_in_range, subsystem_in_range, judge_header, judge_subsystem}
 use Rattle.stored.specs.Read.{refused_at, header_in, head_at, subsystem_place, tasks_refusal, refusal_from, subsystem_refusal, left_over, body_refusal, refusal_in, table_to, table_in, read_of}
@@ -58,7 +58,7 @@ module _ (file : List ℕ) (unrefused : refusal_in file ≡ none) where
       (neither_refused (refused_at at (judge_subsystem (drop at file))) (tasks_refusal file M at) (subsystem_unrefused s h)).0))
 
 -- The counts of a file that is read whole.
-pub whole_counts : (file : List ℕ) → (read_of file).answer ≡ Whole → (1 ≤ (table_in file).count) × ((table_in file).count ≤ most) × ((table_in file).resources ≤ most) × ((s : ℕ) → s < (table_in file).count → (1 ≤ task_count (subsystem_of (meaning (table_in file)) s)) × (task_count (subsystem_of (meaning (table_in file)) s) ≤ most))
+pub whole_counts : (file : List ℕ) → (read_of file).answer ≡ whole → (1 ≤ (table_in file).count) × ((table_in file).count ≤ most) × ((table_in file).resources ≤ most) × ((s : ℕ) → s < (table_in file).count → (1 ≤ task_count (subsystem_of (meaning (table_in file)) s)) × (task_count (subsystem_of (meaning (table_in file)) s) ≤ most))
 unfolding table_in table_to
 whole_counts file e =
     let clean = (whole_reads_the_table file e).0 in
@@ -66,7 +66,7 @@ whole_counts file e =
     (both.0, both.1, both.2, each_count file clean)
 
 -- So rule 1 passes it.
-pub whole_counts_pass : (file : List ℕ) → (read_of file).answer ≡ Whole → counts_judged (meaning (table_in file)) ≡ Admitted
+pub whole_counts_pass : (file : List ℕ) → (read_of file).answer ≡ whole → counts_judged (meaning (table_in file)) ≡ Admitted
 unfolding meaning
 whole_counts_pass file e =
     let c = whole_counts file e in
@@ -79,5 +79,5 @@ whole_counts_pass file e =
       tasks_most = λ s h. (c.3 s (rw (← count_of_subsystems (table_in file)) h)).1;
     })
 
-pub read_counts_pass : (file : List ℕ) → (read_of file).answer ≡ Whole → counts_judged (meaning (read_of file).table) ≡ Admitted
+pub read_counts_pass : (file : List ℕ) → (read_of file).answer ≡ whole → counts_judged (meaning (read_of file).table) ≡ Admitted
 read_counts_pass file e = ap (λ (t : Table). counts_judged (meaning t)) (whole_reads_the_table file e).1 ∙ whole_counts_pass file e

@@ -9,6 +9,7 @@ use mathlib.Core.Bool.{true, not}
 use mathlib.Core.Option.{none}
 use mathlib.Core.List.{List, ◌++◌, flat_map}
 use lib.ListN.{length, get_or, drop, length-append}
+use Rattle.std.specs.Prelude.{Ok}
 use Rattle.lists.specs.Range.{first_of, up_to}
 use Rattle.lists.proofs.First.{first_of_nowhere}
 use Rattle.lists.proofs.UpTo.{up_to_ext}
@@ -19,7 +20,6 @@ use Rattle.table.specs.Meaning.{past_tasks, past_subsystems, task_m, task_at, su
 use Rattle.table.proofs.Parts.{task_of_slot, subsystem_of_slot}
 use Rattle.rules.specs.Rules.{count_out}
 use Rattle.rules.specs.Slots.{CountedTable}
-use Rattle.stored.specs.declared.FieldAnswer.TheVariants.{Sound}
 use Rattle.stored.specs.Field.{field_size, field, header_tag, header_length, subsystem_tag, subsystem_length, task_tag, task_length}
 use Rattle.stored.specs.Judge.{header_in_range, subsystem_in_range, any_value, judge_header, judge_subsystem, judge_task}
 use Rattle.stored.specs.Decode.{decoded_header, decoded_subsystem, decoded_task}
@@ -101,13 +101,13 @@ module _ (t : Table) (some : 1 ≤ t.count) (counts : CountedTable t) where
     ------------------------------------------------------------------------
     -- Nothing of it is refused
 
-    head_is_sound : judge_subsystem (drop (place s) file) ≡ Sound subsystem_length
+    head_is_sound : judge_subsystem (drop (place s) file) ≡ Ok subsystem_length
     unfolding subsystem_in_range
     head_is_sound =
         field_judged file (place s) subsystem_tag subsystem_length head (length_subsystem_value (slot s).period (slot s).budget (slot s).count) head_stands subsystem_in_range (omega arith)
         (rw (count_of_value (slot s).period (slot s).budget (slot s).count) (count_passes (slot s).count (counts.some_task s h) (counts.tasks_most s h)))
 
-    task_is_sound : (i : ℕ) → i < (slot s).count → judge_task t.resources (drop (task_place t.resources (place s) i) file) ≡ Sound (task_length t.resources)
+    task_is_sound : (i : ℕ) → i < (slot s).count → judge_task t.resources (drop (task_place t.resources (place s) i) file) ≡ Ok (task_length t.resources)
     unfolding task_field task_at any_value
     task_is_sound i l =
         let value = task_value (task_at t.resources (slot s) i) in
@@ -131,7 +131,7 @@ module _ (t : Table) (some : 1 ≤ t.count) (counts : CountedTable t) where
       next_place s (omega arith) ∙
       ap place (add-one s)
 
-  header_is_sound : judge_header file ≡ Sound header_length
+  header_is_sound : judge_header file ≡ Ok header_length
   unfolding header_in_range header_value
   header_is_sound =
       field_judged file 0 header_tag header_length (header_value t.count t.resources) (length_header_value t.count t.resources) header_stands header_in_range (omega arith)

@@ -12,20 +12,20 @@ returns-in_default c =
 
 pub value-requires : goal.value-requires
 value-requires c =
-    sound_whole 1 3 any_value c.args.rest.now _ _ c.judge-answer.ensures c.in-Sound.is
+    sound_whole 1 3 any_value c.args.rest.now _ _ c.judge-answer.ensures c.in-Ok.is
 
 pub header_in_range-requires : goal.header_in_range-requires
 header_in_range-requires c =
-    omega (arith, sound_value_length 1 3 any_value c.args.rest.now _ _ c.judge-answer.ensures c.in-Sound.is c.value.result.now c.value.ensures)
+    omega (arith, sound_value_length 1 3 any_value c.args.rest.now _ _ c.judge-answer.ensures c.in-Ok.is c.value.result.now c.value.ensures)
 
 pub returns-then-header_in_range : goal.returns-then-header_in_range
 returns-then-header_in_range c =
-    let e = sound_value 1 3 any_value c.args.rest.now _ _ c.judge-answer.ensures c.in-Sound.is c.value.result.now c.value.ensures in
-    sound_in_range 1 3 header_in_range c.args.rest.now _ c.in-Sound.len c.judge-answer.ensures c.in-Sound.is
+    let e = sound_value 1 3 any_value c.args.rest.now _ _ c.judge-answer.ensures c.in-Ok.is c.value.result.now c.value.ensures in
+    sound_in_range 1 3 header_in_range c.args.rest.now _ c.in-Ok.len c.judge-answer.ensures c.in-Ok.is
     (sym (ap header_in_range e) ∙ sym c.header_in_range.ensures ∙ c.if-header_in_range.true)
 
 pub returns : goal.returns
 returns c =
-    let e = sound_value 1 3 any_value c.args.rest.now _ _ c.judge-answer.ensures c.in-Sound.is c.value.result.now c.value.ensures in
-    sound_out_of_range 1 3 header_in_range c.args.rest.now _ c.in-Sound.len c.judge-answer.ensures c.in-Sound.is
+    let e = sound_value 1 3 any_value c.args.rest.now _ _ c.judge-answer.ensures c.in-Ok.is c.value.result.now c.value.ensures in
+    sound_out_of_range 1 3 header_in_range c.args.rest.now _ c.in-Ok.len c.judge-answer.ensures c.in-Ok.is
     (sym (ap header_in_range e) ∙ sym c.header_in_range.ensures ∙ c.if-header_in_range.false)

@@ -13,22 +13,22 @@ returns-in_default c =
 
 pub value-counted-requires : goal.value-counted-requires
 value-counted-requires c =
-    sound_whole 2 9 any_value c.args.rest.now _ _ c.judge-answer.ensures c.in-Sound.is
+    sound_whole 2 9 any_value c.args.rest.now _ _ c.judge-answer.ensures c.in-Ok.is
 
 pub bounds-counted-8 : goal.bounds-counted-8
 bounds-counted-8 c =
-    omega (arith, sound_value_length 2 9 any_value c.args.rest.now _ _ c.judge-answer.ensures c.in-Sound.is c.value-counted.result.now c.value-counted.ensures)
+    omega (arith, sound_value_length 2 9 any_value c.args.rest.now _ _ c.judge-answer.ensures c.in-Ok.is c.value-counted.result.now c.value-counted.ensures)
 
 pub returns-then-count_out : goal.returns-then-count_out
 unfolding subsystem_in_range
 returns-then-count_out c =
-    let e = sound_value 2 9 any_value c.args.rest.now _ _ c.judge-answer.ensures c.in-Sound.is c.value-counted.result.now c.value-counted.ensures in
-    sound_out_of_range 2 9 subsystem_in_range c.args.rest.now _ c.in-Sound.len c.judge-answer.ensures c.in-Sound.is
+    let e = sound_value 2 9 any_value c.args.rest.now _ _ c.judge-answer.ensures c.in-Ok.is c.value-counted.result.now c.value-counted.ensures in
+    sound_out_of_range 2 9 subsystem_in_range c.args.rest.now _ c.in-Ok.len c.judge-answer.ensures c.in-Ok.is
     (sym (ap subsystem_in_range e) ∙ ap not (sym c.count_out.ensures ∙ c.if-count_out.true))
 
 pub returns : goal.returns
 unfolding subsystem_in_range
 returns c =
-    let e = sound_value 2 9 any_value c.args.rest.now _ _ c.judge-answer.ensures c.in-Sound.is c.value-counted.result.now c.value-counted.ensures in
-    sound_in_range 2 9 subsystem_in_range c.args.rest.now _ c.in-Sound.len c.judge-answer.ensures c.in-Sound.is
+    let e = sound_value 2 9 any_value c.args.rest.now _ _ c.judge-answer.ensures c.in-Ok.is c.value-counted.result.now c.value-counted.ensures in
+    sound_in_range 2 9 subsystem_in_range c.args.rest.now _ c.in-Ok.len c.judge-answer.ensures c.in-Ok.is
     (sym (ap subsystem_in_range e) ∙ ap not (sym c.count_out.ensures ∙ c.if-count_out.false))
