@@ -2,17 +2,17 @@
 -- Assumes nothing.
 use Prim.Native.Nat.{ℕ, ◌≤◌}
 use native.Mathlib.Omega.{arith}
-use mathlib.Core.Path.{◌≡◌, sym, ap, ◌∙◌}
+use mathlib.Core.Path.{◌≡◌, refl, sym, ap, ◌∙◌}
 use mathlib.Core.Option.{none, some}
 use mathlib.Core.List.{List}
 use lib.ListN.{length, get_or}
+use Rattle.std.specs.Prelude.{Result, Ok, Err}
 use Rattle.table.specs.Limits.{most}
-use Rattle.table.specs.Grid.{HasBlocks}
+use Rattle.table.specs.Grid.{system_in, HasBlocks}
 use Rattle.stored.specs.declared.Fault.{Fault}
-use Rattle.stored.specs.declared.FieldAnswer.{FieldAnswer}
-use Rattle.stored.specs.declared.FieldAnswer.TheVariants.{Sound, Faulty}
-use Rattle.stored.specs.declared.ReadAnswer.{ReadAnswer}
-use Rattle.stored.specs.declared.ReadAnswer.TheVariants.{Refused}
+use Rattle.stored.specs.declared.Misread.{Misread}
+use Rattle.stored.specs.Answers.{FieldAnswer, ReadAnswer, whole}
+use Rattle.reader.specs.declared.Head.{Head}
 use Rattle.stored.specs.Field.{value_of, header_tag, header_length}
 use Rattle.stored.specs.Judge.{header_in_range, judge_header}
 use Rattle.stored.specs.Decode.{decoded_header}
@@ -20,40 +20,56 @@ use Rattle.stored.specs.Read.{refused_at, whole_unless, header_in, subsystem_pla
 use Rattle.reader.specs.Reader.{IsBody, IsHead}
 use Rattle.stored.proofs.Judging.{sound_length, sound_whole, sound_value, sound_means}
 use Rattle.stored.proofs.Offsets.{part_from, part_to_the_end}
-use Rattle.reader.proofs.ReadSubsystems.{refused_is_not_whole}
+use Rattle.reader.proofs.ReadTasks.{refused_is_not_read}
 use Rattle.stored.proofs.InRange.{header_counts}
 
 module _ (file : List ℕ) (a : FieldAnswer) (judged : a ≡ judge_header (part_from file 0)) where
   header_judged : a ≡ judge_header file
   header_judged = judged ∙ ap judge_header (part_to_the_end file 0)
 
-  -- A header that is refused ends the reading there, whatever the counts and the grid.
-  pub header_stops : (f : Fault) (r : ReadAnswer) (n m : ℕ) (grid : List (List (List ℕ))) → HasBlocks grid → a ≡ Faulty f → r ≡ whole_unless (refused_at 0 a) → IsHead file grid (record { answer = r; count = n; resources = m })
-  unfolding read_of refusal_in
-  header_stops f r n m grid blocks e q =
-      let stop : refused_at 0 (judge_header file) ≡ some (f, 0) = ap (refused_at 0) (sym header_judged ∙ e) in
-      let refused : r ≡ Refused f 0 = q ∙ ap (λ (b : FieldAnswer). whole_unless (refused_at 0 b)) e in
+  -- A refusal ends the reading there, whatever the grid.
+  refused_head : (why : Misread) (grid : List (List (List ℕ))) → HasBlocks grid → ◌≡◌ {A = ReadAnswer} (Err why) (read_of file).answer → IsHead file grid (Err why)
+  refused_head why grid blocks q =
       record {
-        answer_is = rw stop refused;
+        answer_is = q;
         blocks = blocks;
-        count_is = λ z. absurd (refused_is_not_whole f 0 (sym refused ∙ z));
-        resources_is = λ z. absurd (refused_is_not_whole f 0 (sym refused ∙ z));
-        means = λ z. absurd (refused_is_not_whole f 0 (sym refused ∙ z));
+        count_is = λ head z. absurd (refused_is_not_read why head z);
+        resources_is = λ head z. absurd (refused_is_not_read why head z);
+        means = λ head z. absurd (refused_is_not_read why head z);
       }
 
-  module _ (k : ℕ) (sound : a ≡ Sound k) where
+  -- So does a header that is refused.
+  pub header_stops : (f : Fault) (why : Misread) (grid : List (List (List ℕ))) → HasBlocks grid → a ≡ Err f → ◌≡◌ {A = ReadAnswer} (Err why) (whole_unless (refused_at 0 a)) → IsHead file grid (Err why)
+  unfolding read_of refusal_in
+  header_stops f why grid blocks e q =
+      let stop : refused_at 0 (judge_header file) ≡ some (f, 0) = ap (refused_at 0) (sym header_judged ∙ e) in
+      refused_head why grid blocks (rw stop (q ∙ ap (λ (b : FieldAnswer). whole_unless (refused_at 0 b)) e))
+
+  module _ (k : ℕ) (sound : a ≡ Ok k) where
     -- A header that is sound leaves the subsystems to decide.
-    pub body_decides : (n m : ℕ) → n ≡ (header_in file).count → m ≡ (header_in file).resources → (grid : List (List (List ℕ))) (r : ReadAnswer) → IsBody file n m grid r → IsHead file grid (record { answer = r; count = n; resources = m })
-    unfolding read_of refusal_in table_in table_to
-    body_decides n m count resources grid r b =
-        let go : refused_at 0 (judge_header file) ≡ none = ap (refused_at 0) (sym header_judged ∙ sound) in
-        record {
-          answer_is = rw go (b.answer_is ∙ λ i. whole_unless (body_refusal file (resources i) (count i)));
-          blocks = b.blocks;
-          count_is = λ z. count;
-          resources_is = λ z. resources;
-          means = b.means;
-        }
+    module _ (head : Head) (count : head.count ≡ (header_in file).count) (resources : head.resources ≡ (header_in file).resources) (grid : List (List (List ℕ))) where
+      answer_of_body : (r : ReadAnswer) → IsBody file head.count head.resources grid r → r ≡ (read_of file).answer
+      unfolding read_of refusal_in
+      answer_of_body r b =
+          let go : refused_at 0 (judge_header file) ≡ none = ap (refused_at 0) (sym header_judged ∙ sound) in
+          rw go (b.answer_is ∙ λ i. whole_unless (body_refusal file (resources i) (count i)))
+
+      pub body_stops : (why : Misread) → IsBody file head.count head.resources grid (Err why) → IsHead file grid (Err why)
+      body_stops why b = refused_head why grid b.blocks (answer_of_body (Err why) b)
+
+      pub body_decides : IsBody file head.count head.resources grid whole → IsHead file grid (Ok head)
+      unfolding table_in table_to
+      body_decides b =
+          record {
+            answer_is = answer_of_body whole b;
+            blocks = b.blocks;
+            count_is = λ h e. ap (λ (g : Head). g.count) (this h e) ∙ count;
+            resources_is = λ h e. ap (λ (g : Head). g.resources) (this h e) ∙ resources;
+            means = λ h e. ap (λ (g : Head). system_in g.count g.resources grid) (this h e) ∙ b.means refl;
+          }
+        where
+          this : (h : Head) → ◌≡◌ {A = Result Head Misread} (Ok head) (Ok h) → h ≡ head
+          this h e = cc
 
     pub header_is_read : (v : List ℕ) → v ≡ value_of k (part_from file 0) → (get_or v 1 0 ≡ (header_in file).count) × (get_or v 2 0 ≡ (header_in file).resources)
     unfolding header_in decoded_header

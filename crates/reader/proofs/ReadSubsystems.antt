@@ -9,6 +9,7 @@ use mathlib.Core.Logic.{◌≢◌}
 use mathlib.Core.Option.{Option, none, some, some-ne-none}
 use mathlib.Core.List.{List, []}
 use lib.ListN.{length, drop, set}
+use Rattle.std.specs.Prelude.{Result, Ok, Err}
 use Rattle.lists.specs.Range.{or_else, first_of, up_to}
 use Rattle.lists.proofs.Filled.{Filled, filled_none, filled_at, filled_more}
 use Rattle.lists.proofs.First.{first_of_here, first_of_next, first_of_over}
@@ -19,35 +20,31 @@ use Rattle.table.specs.Grid.{subsystem_in, subsystem_at_block, block_in, system_
 use Rattle.table.proofs.GridLaws.{blocks_kept}
 use Rattle.stored.specs.declared.Fault.{Fault}
 use Rattle.stored.specs.declared.Fault.TheVariants.{LeftOver}
-use Rattle.stored.specs.declared.FieldAnswer.{FieldAnswer}
-use Rattle.stored.specs.declared.FieldAnswer.TheVariants.{Sound, Faulty}
-use Rattle.stored.specs.declared.ReadAnswer.{ReadAnswer}
-use Rattle.stored.specs.declared.ReadAnswer.TheVariants.{Whole, Refused}
-use Rattle.reader.specs.declared.Part.{Part}
+use Rattle.stored.specs.declared.Misread.{Misread}
+use Rattle.stored.specs.Answers.{FieldAnswer, ReadAnswer, whole, misread, refused}
 use Rattle.stored.specs.Field.{field_size, value_of, header_length, subsystem_tag, subsystem_length}
 use Rattle.stored.specs.Judge.{subsystem_in_range, judge_subsystem}
 use Rattle.stored.specs.Decode.{decoded_subsystem}
 use Rattle.stored.specs.HeadLine.{HeadLine}
 use Rattle.stored.specs.Read.{Refusal, refused_at, whole_unless, header_in, head_at, task_place, place_behind, subsystem_place, tasks_refusal, refusal_from, subsystem_refusal, left_over, body_refusal, subsystem_from, subsystem_read, table_to, table_in}
-use Rattle.reader.specs.Reader.{IsPart, IsBody}
+use Rattle.reader.specs.Reader.{answer_by, IsPart, IsBody}
 use Rattle.stored.proofs.Judging.{sound_length, sound_whole, sound_value, sound_means}
 use Rattle.stored.proofs.ReadMeaning.{subsystem_of_reading}
 use Rattle.stored.proofs.Offsets.{part_from, part_to_the_end}
 use Rattle.stored.proofs.InRange.{head_count_lem}
 use Rattle.stored.proofs.RoundTrips.{whole_is_unrefused}
-use Rattle.reader.proofs.ReadTasks.{whole_within, first_task_stands}
+use Rattle.reader.proofs.ReadTasks.{whole_within, first_task_stands, refused_is_not_read}
 
 ------------------------------------------------------------------------
 -- What an answer says of the refusal behind it
 
-pub refused_is_some : (o : Option Refusal) (f : Fault) (p : ℕ) → whole_unless o ≡ Refused f p → o ≡ some (f, p)
+pub refused_is_some : (o : Option Refusal) (f : Fault) (p : ℕ) → whole_unless o ≡ refused f p → o ≡ some (f, p)
 refused_is_some none f p e = let z : ◌≡◌ {A = ℕ} 0 1 = cc in absurd (omega arith)
 refused_is_some (some r) f p e =
-    let ef : r.0 ≡ f = cc in
-    let ep : r.1 ≡ p = cc in
-    λ i. some (ef i, ep i)
+    let same : misread r.0 r.1 ≡ misread f p = cc in
+    λ i. some ((same i).fault, (same i).offset)
 
-pub refused_is_not_whole : (f : Fault) (p : ℕ) → Refused f p ≢ Whole
+pub refused_is_not_whole : (f : Fault) (p : ℕ) → refused f p ≢ whole
 refused_is_not_whole f p e = let z : ◌≡◌ {A = ℕ} 0 1 = cc in absurd (omega arith)
 
 ------------------------------------------------------------------------
@@ -76,21 +73,21 @@ module _ (file : List ℕ) (m at : ℕ) (a : FieldAnswer) (within : at ≤ lengt
   refusal_of_field = ap (refused_at at) (sym (judged ∙ ap judge_subsystem (part_to_the_end file at)))
 
   -- A field that is refused ends the reading there.
-  pub subsystem_stops : (f : Fault) (r : ReadAnswer) (block : List (List ℕ)) → HasLines block → a ≡ Faulty f → r ≡ whole_unless (refused_at at a) → IsPart (refusal_from file m at) file m at block (record { answer = r; next = at })
+  pub subsystem_stops : (f : Fault) (why : Misread) (block : List (List ℕ)) → HasLines block → a ≡ Err f → ◌≡◌ {A = ReadAnswer} (Err why) (whole_unless (refused_at at a)) → IsPart (refusal_from file m at) file m at block (Err why)
   unfolding refusal_from
-  subsystem_stops f r block lines e q =
+  subsystem_stops f why block lines e q =
       let stop : refusal_from file m at ≡ some (f, at) = ap (λ (o : Option Refusal). or_else o (tasks_refusal file m at)) (refusal_of_field ∙ ap (refused_at at) e) in
       record {
         answer_is = rw stop (q ∙ ap (λ (b : FieldAnswer). whole_unless (refused_at at b)) e);
         lines = lines;
         means = λ z. absurd (some-ne-none (f, at) (sym stop ∙ z));
-        next_is = λ z. absurd (some-ne-none (f, at) (sym stop ∙ z));
-        within = within;
+        next_is = λ next z. absurd (refused_is_not_read why next z);
+        within = λ next z. absurd (refused_is_not_read why next z);
       }
 
-  module _ (k : ℕ) (sound : a ≡ Sound k) where
+  module _ (k : ℕ) (sound : a ≡ Ok k) where
     -- A field that is sound leaves the tasks to decide.
-    pub tasks_decide : (block : List (List ℕ)) (r : Part) → IsPart (tasks_refusal file m at) file m at block r → IsPart (refusal_from file m at) file m at block r
+    pub tasks_decide : (block : List (List ℕ)) (r : Result ℕ Misread) → IsPart (tasks_refusal file m at) file m at block r → IsPart (refusal_from file m at) file m at block r
     unfolding refusal_from
     tasks_decide block r i =
         let go : refusal_from file m at ≡ tasks_refusal file m at = ap (λ (o : Option Refusal). or_else o (tasks_refusal file m at)) (refusal_of_field ∙ ap (refused_at at) sound) in
@@ -147,7 +144,7 @@ subsystems_begin file m n grid h blocks =
     }
 
 module _ (file : List ℕ) (m n s place : ℕ) (grid : List (List (List ℕ))) (to : SubsystemsTo file m n s place grid) where
-  module _ (below : s < n) (fits : n ≤ most) (block : List (List ℕ)) (r : Part) (reading : IsPart (refusal_from file m place) file m place block r) where
+  module _ (below : s < n) (fits : n ≤ most) (block : List (List ℕ)) (r : Result ℕ Misread) (reading : IsPart (refusal_from file m place) file m place block r) where
     refusal_of_subsystem : subsystem_refusal file m s ≡ refusal_from file m place
     unfolding subsystem_refusal
     refusal_of_subsystem = ap (refusal_from file m) (sym to.here)
@@ -156,15 +153,17 @@ module _ (file : List ℕ) (m n s place : ℕ) (grid : List (List (List ℕ))) (
     still_blocks = blocks_kept grid s block (omega arith) to.blocks reading.lines
 
     -- A subsystem that is refused ends the reading there.
-    pub subsystems_stop : (f : Fault) (p : ℕ) → r.answer ≡ Refused f p → IsBody file n m (set grid s block) r.answer
+    pub subsystems_stop : (why : Misread) → r ≡ Err why → IsBody file n m (set grid s block) (Err why)
     unfolding body_refusal
-    subsystems_stop f p e =
-        let stop : subsystem_refusal file m s ≡ some (f, p) = refusal_of_subsystem ∙ refused_is_some (refusal_from file m place) f p (sym reading.answer_is ∙ e) in
+    subsystems_stop why e =
+        let f = why.fault in
+        let p = why.offset in
+        let stop : subsystem_refusal file m s ≡ some (f, p) = refusal_of_subsystem ∙ refused_is_some (refusal_from file m place) f p (sym reading.answer_is ∙ ap answer_by e) in
         let all : first_of (subsystem_refusal file m) n 0 ≡ some (f, p) = to.left ∙ first_of_here (subsystem_refusal file m) n s (f, p) below stop in
         record {
-          answer_is = rw all e;
+          answer_is = rw all refl;
           blocks = still_blocks;
-          means = λ z. absurd (refused_is_not_whole f p (sym e ∙ z));
+          means = λ z. absurd (refused_is_not_whole f p z);
         }
 
     block_is_read : refusal_from file m place ≡ none → subsystem_in m block ≡ subsystem_m m (subsystem_read file m s)
@@ -172,14 +171,14 @@ module _ (file : List ℕ) (m n s place : ℕ) (grid : List (List (List ℕ))) (
     block_is_read o = reading.means o ∙ ap (λ (p : ℕ). subsystem_m m (subsystem_from file m p)) to.here
 
     -- A subsystem that is whole is read, and the next one stands behind it.
-    pub subsystems_go_on : r.answer ≡ Whole → SubsystemsTo file m n (s + 1) r.next (set grid s block)
+    pub subsystems_go_on : (next : ℕ) → r ≡ Ok next → SubsystemsTo file m n (s + 1) next (set grid s block)
     unfolding subsystem_place
-    subsystems_go_on e =
-        let o = whole_is_unrefused (refusal_from file m place) (sym reading.answer_is ∙ e) in
+    subsystems_go_on next e =
+        let o = whole_is_unrefused (refusal_from file m place) (sym reading.answer_is ∙ ap answer_by e) in
         record {
           passed = omega arith;
-          here = rw add-one (reading.next_is o ∙ ap (place_behind file m) to.here);
-          within = reading.within;
+          here = rw add-one (reading.next_is next e ∙ ap (place_behind file m) to.here);
+          within = reading.within next e;
           blocks = still_blocks;
           read = filled_more [] (BlockRead file m) 0 grid s s block (omega arith) (omega (arith, to.blocks.blocks)) to.read (block_is_read o);
           left = to.left ∙ first_of_next (subsystem_refusal file m) n s below (refusal_of_subsystem ∙ o);
@@ -194,7 +193,7 @@ module _ (file : List ℕ) (m n s place : ℕ) (grid : List (List (List ℕ))) (
         (ap (left_over file) (sym (to.here ∙ ap (subsystem_place file m) all)))
 
     -- Behind the last subsystem, bytes that are left are refused at the first of them.
-    pub left_over_stops : place < length file → IsBody file n m grid (Refused LeftOver place)
+    pub left_over_stops : place < length file → IsBody file n m grid (refused LeftOver place)
     unfolding left_over
     left_over_stops more =
         record {
@@ -204,7 +203,7 @@ module _ (file : List ℕ) (m n s place : ℕ) (grid : List (List (List ℕ))) (
         }
 
     -- Where nothing is left the grid means what the file's table does.
-    pub subsystems_end : length file ≤ place → n ≡ (header_in file).count → m ≡ (header_in file).resources → IsBody file n m grid Whole
+    pub subsystems_end : length file ≤ place → n ≡ (header_in file).count → m ≡ (header_in file).resources → IsBody file n m grid whole
     unfolding left_over
     subsystems_end done count resources =
         record {

@@ -7,6 +7,7 @@ use mathlib.Core.Path.{◌≡◌, refl, sym, ap, ◌∙◌}
 use mathlib.Core.Option.{some, some-ne-none}
 use mathlib.Core.List.{List, []}
 use lib.ListN.{length, get_or, drop, set, length-drop}
+use Rattle.std.specs.Prelude.{Result, Ok, Err}
 use Rattle.lists.specs.Range.{first_of}
 use Rattle.lists.proofs.Filled.{Filled, filled_none, filled_at, filled_more, kept_before}
 use Rattle.lists.proofs.First.{first_of_here, first_of_next, first_of_over}
@@ -14,10 +15,8 @@ use Rattle.table.specs.Limits.{most}
 use Rattle.table.specs.Grid.{HasLines, LineOf, IsLine}
 use Rattle.table.proofs.GridLaws.{lines_kept}
 use Rattle.stored.specs.declared.Fault.{Fault}
-use Rattle.stored.specs.declared.FieldAnswer.{FieldAnswer}
-use Rattle.stored.specs.declared.FieldAnswer.TheVariants.{Sound, Faulty}
-use Rattle.stored.specs.declared.ReadAnswer.{ReadAnswer}
-use Rattle.stored.specs.declared.ReadAnswer.TheVariants.{Whole}
+use Rattle.stored.specs.declared.Misread.{Misread}
+use Rattle.stored.specs.Answers.{FieldAnswer, ReadAnswer}
 use Rattle.stored.specs.Field.{field_size, value_of, subsystem_length, task_tag, task_length}
 use Rattle.stored.specs.Judge.{any_value, judge_task}
 use Rattle.stored.specs.Decode.{decoded_task}
@@ -36,6 +35,10 @@ whole_within xs a k h w = omega (arith, ap length (part_to_the_end xs a), length
 pub first_task_stands : (m at : ℕ) → at + field_size subsystem_length ≡ task_place m at 0
 unfolding task_place
 first_task_stands m at = omega arith
+
+-- What is refused was not read.
+pub refused_is_not_read : {A : Type 0} (why : Misread) (x : A) → ◌≡◌ {A = Result A Misread} (Err why) (Ok x) → ⊥
+refused_is_not_read why x e = let z : ◌≡◌ {A = ℕ} 0 1 = cc in omega arith
 
 ------------------------------------------------------------------------
 -- What the reader knows before it judges task i of n, at its place
@@ -72,19 +75,19 @@ module _ (file : List ℕ) (m at n i place : ℕ) (block : List (List ℕ)) (to 
       rw (← to.here) (ap (refused_at place) (sym (judged ∙ ap (judge_task m) (part_to_the_end file place))))
 
   -- A task that is refused ends the reading there.
-  pub tasks_stop : (f : Fault) (r : ReadAnswer) → a ≡ Faulty f → r ≡ whole_unless (refused_at place a) → IsPart (tasks_refusal file m at) file m at block (record { answer = r; next = place })
-  tasks_stop f r e q =
+  pub tasks_stop : (f : Fault) (why : Misread) → a ≡ Err f → ◌≡◌ {A = ReadAnswer} (Err why) (whole_unless (refused_at place a)) → IsPart (tasks_refusal file m at) file m at block (Err why)
+  tasks_stop f why e q =
       let stop : tasks_refusal file m at ≡ some (f, place) = to.left ∙ first_of_here (task_refusal file m at) n i (f, place) below (refusal_of_task ∙ ap (refused_at place) e) in
       record {
         answer_is = rw stop (q ∙ ap (λ (b : FieldAnswer). whole_unless (refused_at place b)) e);
         lines = to.lines;
         means = λ z. absurd (some-ne-none (f, place) (sym stop ∙ z));
-        next_is = λ z. absurd (some-ne-none (f, place) (sym stop ∙ z));
-        within = to.within;
+        next_is = λ next z. absurd (refused_is_not_read why next z);
+        within = λ next z. absurd (refused_is_not_read why next z);
       }
 
   -- A task that is sound is read, and the next one stands behind it.
-  pub tasks_go_on : (k : ℕ) (v line : List ℕ) → a ≡ Sound k → v ≡ value_of k (part_from file place) → LineOf m (decoded_task m v) line → IsLine line → n ≤ most → TasksTo file m at n (i + 1) (place + field_size k) (set block (i + 1) line)
+  pub tasks_go_on : (k : ℕ) (v line : List ℕ) → a ≡ Ok k → v ≡ value_of k (part_from file place) → LineOf m (decoded_task m v) line → IsLine line → n ≤ most → TasksTo file m at n (i + 1) (place + field_size k) (set block (i + 1) line)
   unfolding task_read
   tasks_go_on k v line e w d q h =
       let due = sound_length task_tag (task_length m) any_value (part_from file place) a k judged e in
@@ -103,7 +106,7 @@ module _ (file : List ℕ) (m at n i place : ℕ) (block : List (List ℕ)) (to 
       }
 
 -- Behind the last task the subsystem is read.
-pub tasks_end : (file : List ℕ) (m at n i place : ℕ) (block : List (List ℕ)) → TasksTo file m at n i place block → n ≤ i → n ≡ (head_at file at).count → IsPart (tasks_refusal file m at) file m at block (record { answer = Whole; next = place })
+pub tasks_end : (file : List ℕ) (m at n i place : ℕ) (block : List (List ℕ)) → TasksTo file m at n i place block → n ≤ i → n ≡ (head_at file at).count → IsPart (tasks_refusal file m at) file m at block (Ok place)
 unfolding place_behind
 tasks_end file m at n i place block to over count =
     let all : i ≡ (head_at file at).count = omega (arith, to.passed, count) in
@@ -111,6 +114,9 @@ tasks_end file m at n i place block to over count =
       answer_is = sym (ap whole_unless (to.left ∙ first_of_over (task_refusal file m at) n i over));
       lines = to.lines;
       means = λ z. block_means file m at block to.head (λ j k. filled_at [] (LineRead file m at) 1 block i j (j + 1) refl to.read (omega (arith, all, k)));
-      next_is = λ z. to.here ∙ ap (task_place m at) all;
-      within = to.within;
+      next_is = λ next e. next_place next e ∙ to.here ∙ ap (task_place m at) all;
+      within = λ next e. omega (arith, to.within, next_place next e);
     }
+  where
+    next_place : (next : ℕ) → ◌≡◌ {A = Result ℕ Misread} (Ok place) (Ok next) → next ≡ place
+    next_place next e = cc

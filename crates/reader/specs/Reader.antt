@@ -6,7 +6,7 @@ use Rattle.std.proofs.Math.Option.{Option, none}
 use Rattle.table.specs.Meaning.{subsystem_m, meaning}
 use Rattle.table.specs.Grid.{subsystem_in, system_in, HasLines, HasBlocks}
 use Rattle.stored.specs.declared.Misread.{Misread}
-use Rattle.stored.specs.Answers.{FieldAnswer, ReadAnswer, whole, misread}
+use Rattle.stored.specs.Answers.{ReadAnswer, whole}
 use Rattle.reader.specs.declared.Head.{Head}
 use Rattle.stored.specs.Read.{Refusal, whole_unless, place_behind, body_refusal, subsystem_from, table_in, read_of}
 
@@ -14,11 +14,6 @@ use Rattle.stored.specs.Read.{Refusal, whole_unless, place_behind, body_refusal,
 abbrev pub answer_by : {A : Type 0} → Result A Misread → ReadAnswer
 answer_by (Ok _) = whole
 answer_by (Err why) = Err why
-
--- A field's answer with the offset at which the file is refused where the field is faulty.
-abbrev pub placed : ℕ → FieldAnswer → Result ℕ Misread
-placed at (Ok n) = Ok n
-placed at (Err f) = Err (misread f at)
 
 -- What the reading of the subsystem at an offset, or of its tasks, into a block has to be where this is its first refusal. It
 -- gives the next offset.

@@ -1,12 +1,12 @@
 // The reader: the judge, the walk and the decoder at each field, in the order of the fields. At each field the part of
 // the file from the current offset on goes to the judge, and a refusal leaves early. What is read goes into a grid that the
 // caller lends, so that no table is copied. Assumes nothing.
-ghost use Rattle.std.specs.Prelude.{◌≡◌, [], ◌≤◌, length, get_or};
+ghost use Rattle.std.specs.Prelude.{◌≡◌, [], ◌≤◌, length, get_or, Err, IsErr};
 ghost use Rattle.table.specs.Limits.{most};
 ghost use Rattle.table.specs.Grid.{HasLines, HasBlocks};
-ghost use Rattle.stored.specs.Read.{header_in, head_at, task_place, subsystem_place, tasks_refusal, refusal_from};
+ghost use Rattle.stored.specs.Read.{refused_at, whole_unless, header_in, head_at, task_place, subsystem_place, tasks_refusal, refusal_from};
 ghost use Rattle.stored.specs.HeadLine.{HeadLine};
-ghost use Rattle.reader.specs.Reader.{placed, IsPart, IsBody, IsHead};
+ghost use Rattle.reader.specs.Reader.{IsPart, IsBody, IsHead};
 
 use crate::Head;
 use stored::decode::{TASK_START, decode_subsystem, decode_task};
@@ -17,11 +17,15 @@ use stored::number::NUMBER;
 use stored::{Fault, FieldAnswer, Misread, ReadAnswer};
 use table::grid::{Block, Grid, count};
 
-// The judge's answer on the field at an offset: where the field is faulty, the file is refused there.
-fn answer_at(answer: FieldAnswer, at: usize) -> Result<usize, Misread>
-    ensures { result ≡ placed at answer }
+// Why the file is refused where what stands at an offset is faulty.
+fn misread_at(answer: FieldAnswer, at: usize) -> Misread
+    requires faulty { IsErr answer }
+    ensures { Err result ≡ whole_unless (refused_at at answer) }
 {
-    answer.map_err(|fault| Misread { fault, offset: at })
+    Misread {
+        fault: answer.unwrap_err(),
+        offset: at,
+    }
 }
 
 // Reads the n tasks of the subsystem whose field stands at `at` into the block; the block's own line is that field's. Gives
@@ -35,9 +39,9 @@ fn read_tasks(file: &[u8], at: usize, n: usize, m: usize, block: &mut Block) -> 
     let mut place = at + (START + SUBSYSTEM_LENGTH);
     for i in 0..n {
         let rest = &file[place..];
-        let answer = answer_at(judge(rest, TASK, TASK_START + NUMBER * m), place);
+        let answer = judge(rest, TASK, TASK_START + NUMBER * m);
         let Ok(len) = answer else {
-            return answer;
+            return Err(misread_at(answer, place));
         };
         decode_task(value(rest, len), m, &mut block[i + 1]);
         place += START + len;
@@ -51,9 +55,9 @@ fn read_subsystem(file: &[u8], at: usize, m: usize, block: &mut Block) -> Result
     ensures { IsPart (refusal_from file.now m at) file.now m at block.new result }
 {
     let rest = &file[at..];
-    let answer = answer_at(judge_subsystem(rest), at);
+    let answer = judge_subsystem(rest);
     let Ok(len) = answer else {
-        return answer;
+        return Err(misread_at(answer, at));
     };
     decode_subsystem(value(rest, len), &mut block[0]);
     read_tasks(file, at, count(block), m, block)
@@ -71,10 +75,7 @@ fn read_subsystems(file: &[u8], n: usize, m: usize, grid: &mut Grid) -> ReadAnsw
         at = read_subsystem(file, at, m, &mut grid[s])?;
     }
     if at < file.len() {
-        return Err(Misread {
-            fault: Fault::LeftOver,
-            offset: at,
-        });
+        return Err(misread_at(Err(Fault::LeftOver), at));
     }
     Ok(())
 }
@@ -86,7 +87,10 @@ pub fn read_grid(file: &[u8], grid: &mut Grid) -> Result<Head, Misread>
     ensures { IsHead file.now grid.new result }
 {
     let rest = &file[0..];
-    let len = answer_at(judge_header(rest), 0)?;
+    let answer = judge_header(rest);
+    let Ok(len) = answer else {
+        return Err(misread_at(answer, 0));
+    };
     let header = value(rest, len);
     let head = Head {
         count: header[1],

@@ -19,29 +19,29 @@ loop-i-init c =
 
 pub returns-in_default : goal.returns-in_default
 returns-in_default c =
-    tasks_stop c.args.file.now c.args.m c.args.at c.args.n c.loop-i.i c.loop-i.place c.loop-i.block c.loop-i.invariant c.loop-i-test.true c.judge-answer.result c.judge-answer.ensures c.in_default.field-0 c.answer_at.result c.in_default.is c.answer_at.ensures
+    tasks_stop c.args.file.now c.args.m c.args.at c.args.n c.loop-i.i c.loop-i.place c.loop-i.block c.loop-i.invariant c.loop-i-test.true c.judge-answer.result c.judge-answer.ensures c.in_default.field-0 c.misread_at.result c.in_default.is c.misread_at.ensures
 
 pub value-requires : goal.value-requires
 value-requires c =
-    sound_whole 3 (task_length c.args.m) any_value (part_from c.args.file.now c.loop-i.place) _ _ c.judge-answer.ensures c.in-Sound.is
+    sound_whole 3 (task_length c.args.m) any_value (part_from c.args.file.now c.loop-i.place) _ _ c.judge-answer.ensures c.in-Ok.is
 
 pub decode_task-requires : goal.decode_task-requires
 decode_task-requires c =
-    let size = sound_value_length 3 (task_length c.args.m) any_value (part_from c.args.file.now c.loop-i.place) _ _ c.judge-answer.ensures c.in-Sound.is c.value.result.now c.value.ensures in
+    let size = sound_value_length 3 (task_length c.args.m) any_value (part_from c.args.file.now c.loop-i.place) _ _ c.judge-answer.ensures c.in-Ok.is c.value.result.now c.value.ensures in
     record { m_le_most = (c.requires.m_le_most.0, le_of_eq (sym size)); line = c.loop-i.invariant.lines.wide (c.loop-i.i + 1) (omega (arith, c.loop-i-test.true, c.requires.m_le_most.1.0)) }
 
 pub overflow_add-place-in-loop-i : goal.overflow_add-place-in-loop-i
 overflow_add-place-in-loop-i c =
-    omega (arith, sound_length 3 (task_length c.args.m) any_value (part_from c.args.file.now c.loop-i.place) _ _ c.judge-answer.ensures c.in-Sound.is, c.requires.m_le_most.0)
+    omega (arith, sound_length 3 (task_length c.args.m) any_value (part_from c.args.file.now c.loop-i.place) _ _ c.judge-answer.ensures c.in-Ok.is, c.requires.m_le_most.0)
 
 pub overflow_add-place-in-loop-i-2 : goal.overflow_add-place-in-loop-i-2
 overflow_add-place-in-loop-i-2 c =
-    let whole = sound_whole 3 (task_length c.args.m) any_value (part_from c.args.file.now c.loop-i.place) _ _ c.judge-answer.ensures c.in-Sound.is in
+    let whole = sound_whole 3 (task_length c.args.m) any_value (part_from c.args.file.now c.loop-i.place) _ _ c.judge-answer.ensures c.in-Ok.is in
     omega (arith, whole_within c.args.file.now c.loop-i.place _ c.loop-i.invariant.within whole, c.well_formed.0.0)
 
 pub loop-i-preserved : goal.loop-i-preserved
 loop-i-preserved c =
-    tasks_go_on c.args.file.now c.args.m c.args.at c.args.n c.loop-i.i c.loop-i.place c.loop-i.block c.loop-i.invariant c.loop-i-test.true _ c.judge-answer.ensures _ c.value.result.now _ c.in-Sound.is c.value.ensures c.decode_task.ensures.0 c.decode_task.ensures.1 c.requires.m_le_most.1.0
+    tasks_go_on c.args.file.now c.args.m c.args.at c.args.n c.loop-i.i c.loop-i.place c.loop-i.block c.loop-i.invariant c.loop-i-test.true _ c.judge-answer.ensures _ c.value.result.now _ c.in-Ok.is c.value.ensures c.decode_task.ensures.0 c.decode_task.ensures.1 c.requires.m_le_most.1.0
 
 pub returns : goal.returns
 returns c =
