@@ -21,12 +21,9 @@ pub fn put_bytes(buf: &mut [u8], at: usize, bytes: &[u8]) -> usize
     requires { at + length bytes.now ≤ length buf.old }
     ensures { (result ≡ at + length bytes.now) × (buf.new ≡ written buf.old at bytes.now) }
 {
-    let mut i = 0;
-    while i < bytes.len() {
-        buf[at + i] = bytes[i];
-        i += 1;
-    }
-    at + i
+    let end = at + bytes.len();
+    buf[at..end].copy_from_slice(bytes);
+    end
 }
 
 // A number, in decimal, without leading zeros. Most numbers have one digit; those are written here and need no call of a
@@ -79,5 +76,5 @@ fn digit(d: u32) -> u8
     requires { d < 10 }
     ensures { result ≡ digit_byte d }
 {
-    48 + d as u8
+    b'0' + d as u8
 }

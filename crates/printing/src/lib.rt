@@ -28,11 +28,10 @@ pub fn print_text_in<W: Write>(
         → OnOk result (Appends (W.contents out.old) (W.contents out.new) (text_of file.now)) }
     ensures unwritten { length buf.old < text_room → Keeps (W.contents out.old) (W.contents out.new) }
 {
-    let printed = text::check_text_in(file, grid, buf);
-    if let Printed::Text(len) = printed {
-        return out.write_all(&buf[..len]);
+    match text::check_text_in(file, grid, buf) {
+        Printed::Text(len) => out.write_all(&buf[..len]),
+        Printed::NoRoom => Ok(()),
     }
-    Ok(())
 }
 
 // The same for one file.
