@@ -12,7 +12,7 @@ use Rattle.table.specs.Parts.{subsystem_of, task_count}
 use Rattle.table.specs.Grid.{block_in, count_in, system_in}
 use Rattle.table.specs.declared.Table.{Table}
 use Rattle.table.proofs.GridLaws.{count_of_block, subsystem_of_grid}
-use Rattle.rules.specs.declared.Judged.TheVariants.{Admitted}
+use Rattle.rules.specs.Judged.{admitted}
 use Rattle.rules.specs.Rules.{counts_judged}
 use Rattle.stored.specs.declared.Misread.{Misread}
 use Rattle.stored.specs.declared.Reading.{Reading}
@@ -65,5 +65,5 @@ module _ (file : List ℕ) (grid : List (List (List ℕ))) (r : Result Head Misr
   pub grid_means_table : system_in n m grid ≡ meaning (read_of file).table
   grid_means_table = rw (p, q) (h.means head e) ∙ ap meaning (sym (whole_reads_the_table file (read_whole file grid r h head e)).1)
 
-  pub grid_counts_pass : counts_judged (system_in n m grid) ≡ Admitted
+  pub grid_counts_pass : counts_judged (system_in n m grid) ≡ admitted
   grid_counts_pass = ap counts_judged grid_means_table ∙ read_counts_pass file (read_whole file grid r h head e)

@@ -8,6 +8,7 @@ use mathlib.Core.Bool.{Bool, true, false, cond}
 use mathlib.Core.Option.{Option, none, some}
 use mathlib.Core.List.{List, [], flat_map}
 use lib.Dec.{ltb}
+use Rattle.std.specs.Prelude.{Ok, Err}
 use lib.ListN.{length, get_or, take, drop, length-append}
 use lib.Seq.{take_at}
 use Rattle.lists.specs.Range.{up_to}
@@ -15,8 +16,7 @@ use Rattle.table.specs.Limits.{most}
 use Rattle.table.specs.Zeros.{zero_table}
 use Rattle.table.specs.declared.Table.{Table}
 use Rattle.table.specs.Meaning.{System, past_subsystems, subsystem_at, meaning, MeanTheSame}
-use Rattle.rules.specs.declared.Judged.{Judged}
-use Rattle.rules.specs.declared.Judged.TheVariants.{Admitted, Refused}
+use Rattle.rules.specs.Judged.{Judged, admitted}
 use Rattle.rules.specs.Rules.{counts_judged}
 use Rattle.rules.proofs.OrderLaws.{counted_table}
 use Rattle.stored.specs.declared.Fault.{Fault}
@@ -56,13 +56,13 @@ by_room : (b : Bool) (n k : ℕ) → cond b no_room (stands k) ≡ stands n → 
 by_room true n k e = let z : ◌≡◌ {A = ℕ} 0 1 = cc in absurd (omega arith)
 by_room false n k e = (refl, cc)
 
-by_counts : (j : Judged) (file : List ℕ) (room n : ℕ) → answer_for j file room ≡ stands n → (j ≡ Admitted) × (ltb room (length file) ≡ false) × (length file ≡ n)
-by_counts (Refused k p) file room n e = let z : ◌≡◌ {A = ℕ} 0 1 = cc in absurd (omega arith)
-by_counts Admitted file room n e =
+by_counts : (j : Judged) (file : List ℕ) (room n : ℕ) → answer_for j file room ≡ stands n → (j ≡ admitted) × (ltb room (length file) ≡ false) × (length file ≡ n)
+by_counts (Err r) file room n e = let z : ◌≡◌ {A = ℕ} 0 1 = cc in absurd (omega arith)
+by_counts (Ok _) file room n e =
     let r = by_room (ltb room (length file)) n (length file) e in (refl, r.0, r.1)
 
 -- A write that refuses nothing has counts in range, and the file is what it put.
-pub written_is_the_file : (sys : System) (buf : List ℕ) (n : ℕ) → write_of sys (length buf) ≡ stands n → (counts_judged sys ≡ Admitted) × (length (file_of sys) ≡ n) × (take n (buffer_after sys buf) ≡ file_of sys)
+pub written_is_the_file : (sys : System) (buf : List ℕ) (n : ℕ) → write_of sys (length buf) ≡ stands n → (counts_judged sys ≡ admitted) × (length (file_of sys) ≡ n) × (take n (buffer_after sys buf) ≡ file_of sys)
 unfolding write_of buffer_after written
 written_is_the_file sys buf n e =
     let r = by_counts (counts_judged sys) (file_of sys) (length buf) n e in
@@ -88,7 +88,7 @@ read_then_written_is_the_same_file file buf n bytes e w =
 -- Writing, then reading
 
 -- The file of a table with counts in range is read whole, as a table that means the same.
-pub file_reads_as_the_same_meaning : (t : Table) → Held (meaning t) → counts_judged (meaning t) ≡ Admitted → ((read_of (file_of (meaning t))).answer ≡ whole) × MeanTheSame (read_of (file_of (meaning t))).table t
+pub file_reads_as_the_same_meaning : (t : Table) → Held (meaning t) → counts_judged (meaning t) ≡ admitted → ((read_of (file_of (meaning t))).answer ≡ whole) × MeanTheSame (read_of (file_of (meaning t))).table t
 unfolding MeanTheSame
 file_reads_as_the_same_meaning t held counts =
     let c = counted_table t counts in
@@ -115,7 +115,7 @@ same_meaning_same_write t u buf e =
     (ap (λ (sys : System). write_of sys (length buf)) e, ap (λ (sys : System). buffer_after sys buf) e)
 
 -- A file has one reading: two tables that are written as the same file mean the same.
-pub same_file_same_meaning : (t u : Table) → Held (meaning t) → Held (meaning u) → counts_judged (meaning t) ≡ Admitted → counts_judged (meaning u) ≡ Admitted → file_of (meaning t) ≡ file_of (meaning u) → MeanTheSame t u
+pub same_file_same_meaning : (t u : Table) → Held (meaning t) → Held (meaning u) → counts_judged (meaning t) ≡ admitted → counts_judged (meaning u) ≡ admitted → file_of (meaning t) ≡ file_of (meaning u) → MeanTheSame t u
 unfolding MeanTheSame
 same_file_same_meaning t u held-t held-u counts-t counts-u e =
     sym (file_reads_as_the_same_meaning t held-t counts-t).1 ∙
@@ -150,7 +150,7 @@ empty_file_is_short_at_0 = refl
 -- The largest file
 
 -- No file that is written is longer than 3,110 bytes.
-pub no_file_is_longer : (t : Table) → counts_judged (meaning t) ≡ Admitted → length (file_of (meaning t)) ≤ largest_file
+pub no_file_is_longer : (t : Table) → counts_judged (meaning t) ≡ admitted → length (file_of (meaning t)) ≤ largest_file
 no_file_is_longer t counts =
     let c = counted_table t counts in read_is_no_longer (file_of (meaning t)) (written_is_unrefused t c.subsystems_least c)
 

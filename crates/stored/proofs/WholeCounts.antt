@@ -12,7 +12,7 @@ use Rattle.table.specs.Meaning.{meaning}
 use Rattle.table.specs.Parts.{subsystem_of, task_count}
 use Rattle.table.specs.declared.Table.{Table}
 use Rattle.table.proofs.Parts.{count_of_subsystems}
-use Rattle.rules.specs.declared.Judged.TheVariants.{Admitted}
+use Rattle.rules.specs.Judged.{admitted}
 use Rattle.rules.specs.Rules.{counts_judged}
 use Rattle.rules.proofs.OrderLaws.{counts_admit}
 use Rattle.stored.specs.Answers.{whole}
@@ -66,7 +66,7 @@ whole_counts file e =
     (both.0, both.1, both.2, each_count file clean)
 
 -- So rule 1 passes it.
-pub whole_counts_pass : (file : List ℕ) → (read_of file).answer ≡ whole → counts_judged (meaning (table_in file)) ≡ Admitted
+pub whole_counts_pass : (file : List ℕ) → (read_of file).answer ≡ whole → counts_judged (meaning (table_in file)) ≡ admitted
 unfolding meaning
 whole_counts_pass file e =
     let c = whole_counts file e in
@@ -79,5 +79,5 @@ whole_counts_pass file e =
       tasks_most = λ s h. (c.3 s (rw (← count_of_subsystems (table_in file)) h)).1;
     })
 
-pub read_counts_pass : (file : List ℕ) → (read_of file).answer ≡ whole → counts_judged (meaning (read_of file).table) ≡ Admitted
+pub read_counts_pass : (file : List ℕ) → (read_of file).answer ≡ whole → counts_judged (meaning (read_of file).table) ≡ admitted
 read_counts_pass file e = ap (λ (t : Table). counts_judged (meaning t)) (whole_reads_the_table file e).1 ∙ whole_counts_pass file e

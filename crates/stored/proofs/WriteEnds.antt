@@ -6,8 +6,7 @@ use mathlib.Core.List.{List}
 use lib.ListN.{length}
 use Rattle.std.specs.Prelude.{Err}
 use Rattle.table.specs.Meaning.{System}
-use Rattle.rules.specs.declared.Judged.{Judged}
-use Rattle.rules.specs.declared.Judged.TheVariants.{Admitted, Refused}
+use Rattle.rules.specs.Judged.{Judged, admitted, refused}
 use Rattle.rules.specs.declared.Rule.{Rule}
 use Rattle.rules.specs.declared.Place.{Place}
 use Rattle.rules.specs.Rules.{counts_judged}
@@ -18,16 +17,16 @@ use Rattle.stored.specs.Write.{IsPut, write_of, buffer_after}
 
 module _ (sys : System) (buf : List ℕ) (j : Judged) (judged : j ≡ counts_judged sys) where
   -- A count out of range is refused at its place.
-  pub uncounted : (k : Rule) (p : Place) → j ≡ Refused k p → (Err (Uncounted p) ≡ write_of sys (length buf)) × (buf ≡ buffer_after sys buf)
+  pub uncounted : (k : Rule) (p : Place) → j ≡ refused k p → (Err (Uncounted p) ≡ write_of sys (length buf)) × (buf ≡ buffer_after sys buf)
   unfolding write_of buffer_after
-  uncounted k p e = let q : counts_judged sys ≡ Refused k p = sym judged ∙ e in (rw q refl, rw q refl)
+  uncounted k p e = let q : counts_judged sys ≡ refused k p = sym judged ∙ e in (rw q refl, rw q refl)
 
-  module _ (counted : j ≡ Admitted) where
+  module _ (counted : j ≡ admitted) where
     -- A buffer that is shorter than the file is refused next.
     pub no_room : length buf < length (file_of sys) → (Err NoRoom ≡ write_of sys (length buf)) × (buf ≡ buffer_after sys buf)
     unfolding write_of buffer_after
     no_room h =
-        let q : counts_judged sys ≡ Admitted = sym judged ∙ counted in
+        let q : counts_judged sys ≡ admitted = sym judged ∙ counted in
         let l = lt-ltb (length buf) (length (file_of sys)) h in
         (rw (q, l) refl, rw (q, l) refl)
 
@@ -35,6 +34,6 @@ module _ (sys : System) (buf : List ℕ) (j : Judged) (judged : j ≡ counts_jud
     pub file_put : (after : List ℕ) (n : ℕ) → length (file_of sys) ≤ length buf → IsPut (file_of sys) buf after n → (stands n ≡ write_of sys (length buf)) × (after ≡ buffer_after sys buf)
     unfolding write_of buffer_after
     file_put after n h put =
-        let q : counts_judged sys ≡ Admitted = sym judged ∙ counted in
+        let q : counts_judged sys ≡ admitted = sym judged ∙ counted in
         let l = le-ltb (length buf) (length (file_of sys)) h in
         (rw (q, l) (ap stands put.counted), rw (q, l) put.left)

@@ -2,8 +2,7 @@
 use Rattle.std.specs.Prelude.{ℕ, ◌≡◌, cond, List, ◌++◌, ltb, length, drop, Ok, Err}
 use Rattle.table.specs.Meaning.{System}
 use Rattle.rules.specs.declared.Rule.TheVariants.{Counts}
-use Rattle.rules.specs.declared.Judged.{Judged}
-use Rattle.rules.specs.declared.Judged.TheVariants.{Admitted, Refused}
+use Rattle.rules.specs.Judged.{Judged}
 use Rattle.rules.specs.Refusal.{number_of, Refusal}
 use Rattle.rules.specs.Rules.{counts_judged}
 use Rattle.stored.specs.declared.Unwritten.TheVariants.{Uncounted, NoRoom}
@@ -27,8 +26,8 @@ pub record IsPut (bytes before after : List ℕ) (count : ℕ) : Type 0 where
 
 -- Refused with 1, then with 21 exactly when the buffer is shorter than the file.
 abbrev pub answer_for : Judged → List ℕ → ℕ → WriteAnswer
-answer_for (Refused k p) file room = uncounted p
-answer_for Admitted file room = cond (ltb room (length file)) no_room (stands (length file))
+answer_for (Err r) file room = uncounted r.place
+answer_for (Ok _) file room = cond (ltb room (length file)) no_room (stands (length file))
 
 unfoldable pub write_of : System → ℕ → WriteAnswer
 write_of sys room = answer_for (counts_judged sys) (file_of sys) room
