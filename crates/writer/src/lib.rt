@@ -15,8 +15,7 @@ ghost use Rattle.stored.specs.Write.{IsPut, write_of, buffer_after};
 
 use crate::put::{put_header, put_subsystem};
 use judge::judge_counts;
-use rules::Judged;
-use stored::WriteAnswer;
+use stored::{Unwritten, WriteAnswer};
 use stored::decode::TASK_START;
 use stored::fields::{HEADER_LENGTH, START, SUBSYSTEM_LENGTH};
 use stored::number::NUMBER;
@@ -71,12 +70,12 @@ pub fn write_table(t: Table, buf: &mut [u8]) -> WriteAnswer
     ensures value { result ≡ write_of (meaning t) (length buf.old) }
     ensures buf_after { buf.new ≡ buffer_after (meaning t) buf.old }
 {
-    if let Judged::Refused(_, place) = judge_counts(t) {
-        return WriteAnswer::Uncounted(place);
+    if let Err(broken) = judge_counts(t) {
+        return Err(Unwritten::Uncounted(broken.place));
     }
     let len = file_length(t);
     if buf.len() < len {
-        return WriteAnswer::NoRoom;
+        return Err(Unwritten::NoRoom);
     }
-    WriteAnswer::Written(put_file(buf, t))
+    Ok(put_file(buf, t))
 }

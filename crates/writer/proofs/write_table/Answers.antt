@@ -6,9 +6,9 @@ use Rattle.rules.proofs.OrderLaws.{counted_table}
 use Rattle.stored.proofs.WriteEnds.{uncounted, no_room, file_put}
 use Rattle.writer.proofs.write_table.Goals as goal
 
-pub returns-in-Refused : goal.returns-in-Refused
-returns-in-Refused c =
-    let e = uncounted (meaning c.args.t) c.args.buf.now _ c.judge_counts.ensures c.in-Refused.field-0 c.in-Refused.place c.in-Refused.is in
+pub returns-in-Err : goal.returns-in-Err
+returns-in-Err c =
+    let e = uncounted (meaning c.args.t) c.args.buf.now _ c.judge_counts.ensures c.in-Err.broken.rule c.in-Err.broken.place c.in-Err.is in
     record { value = e.0; buf_after = e.1 }
 
 pub returns-then-buf-len : goal.returns-then-buf-len
