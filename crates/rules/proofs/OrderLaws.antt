@@ -216,6 +216,12 @@ pub laid_out_means :
     system_in n m grid ≡ meaning t
 laid_out_means t grid e n m p q = rw (p, q) e
 
+-- So rule 1 has passed what is laid out where it has passed the table.
+pub laid_out_passes :
+    (t : Table) (grid : List (List (List ℕ))) → system_in t.count t.resources grid ≡ meaning t → (n m : ℕ) → n ≡ t.count → m ≡ t.resources →
+    (j : Judged) → j ≡ counts_judged (meaning t) → j ≡ admitted → counts_judged (system_in n m grid) ≡ admitted
+laid_out_passes t grid e n m p q j f a = ap counts_judged (laid_out_means t grid e n m p q) ∙ sym f ∙ a
+
 ------------------------------------------------------------------------
 -- One subsystem alone
 

@@ -20,14 +20,24 @@ pub fn earlier(found: Judged, next: Judged) -> Judged
     let Err(former) = found else {
         return next;
     };
-    if broken.rule < former.rule { next } else { found }
+    if broken.rule < former.rule {
+        next
+    } else {
+        found
+    }
 }
 
 // Whether a judgement is by rule 2: then none of the rules here can find an earlier one.
 pub fn is_first(found: Judged) -> bool
     ensures { result ≡ is_first found }
 {
-    matches!(found, Err(Broken { rule: Rule::Range, .. }))
+    matches!(
+        found,
+        Err(Broken {
+            rule: Rule::Range,
+            ..
+        })
+    )
 }
 
 // Whether a judgement is a refusal.
@@ -43,10 +53,16 @@ fn judged_own(part: &Part, subsystem: u8) -> Judged
 {
     let place = Place { subsystem, task: 0 };
     if own_out_of_range(part.block) {
-        return Err(Broken { rule: Rule::Range, place });
+        return Err(Broken {
+            rule: Rule::Range,
+            place,
+        });
     }
     if period(part.block) < budget(part.block) {
-        return Err(Broken { rule: Rule::Order, place });
+        return Err(Broken {
+            rule: Rule::Order,
+            place,
+        });
     }
     Ok(())
 }
@@ -58,13 +74,22 @@ fn judged_task(part: &Part, i: usize, place: Place) -> Judged
 {
     let longest = longest_of_task(part.block, part.m, i);
     if task_out_of_range(part.block, i, longest) {
-        return Err(Broken { rule: Rule::Range, place });
+        return Err(Broken {
+            rule: Rule::Range,
+            place,
+        });
     }
     if task_out_of_order(part.block, i) {
-        return Err(Broken { rule: Rule::Order, place });
+        return Err(Broken {
+            rule: Rule::Order,
+            place,
+        });
     }
     if work(part.block, i) < longest {
-        return Err(Broken { rule: Rule::Access, place });
+        return Err(Broken {
+            rule: Rule::Access,
+            place,
+        });
     }
     Ok(())
 }

@@ -8,8 +8,8 @@ use Rattle.judge.proofs.judge_counts.Goals as goal
 pub returns-then-count_out : goal.returns-then-count_out
 returns-then-count_out c =
     elim c.then-count_out.branch [
-      | then-count_out-via-then-count_out w ↦ refused_by_n _ _ c.count_out.ensures w.if-count_out.true
-      | then-count_out-via-else-count_out+then-from-gt-MOST w ↦ refused_by_m _ _ c.count_out.ensures w.if-count_out.false (omega (arith, w.from.ensures, w.if-from-gt-MOST.true))
+      | then-count_out-via-then-count_out w ↦ c.refused.ensures ∙ refused_by_n _ _ c.count_out.ensures w.if-count_out.true
+      | then-count_out-via-else-count_out+then-from-gt-MOST w ↦ c.refused.ensures ∙ refused_by_m _ _ c.count_out.ensures w.if-count_out.false (omega (arith, w.from.ensures, w.if-from-gt-MOST.true))
     ]
 
 pub returns : goal.returns

@@ -1,4 +1,5 @@
 -- `judge::judge_one` meets its contract. Assumes nothing.
+use mathlib.Core.Path.{◌∙◌}
 use Rattle.rules.proofs.OrderLaws.{one_judged, one_refused}
 use Rattle.judge.proofs.judge_one.Goals as goal
 
@@ -8,4 +9,4 @@ returns-then-t-eq1 c =
 
 pub returns : goal.returns
 returns c =
-    one_refused c.args.t c.if-t-eq1.false
+    c.refused.ensures ∙ one_refused c.args.t c.if-t-eq1.false

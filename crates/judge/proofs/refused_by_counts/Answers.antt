@@ -1,4 +1,5 @@
 use native.Mathlib.Omega.{arith}
+use mathlib.Core.Path.{◌∙◌}
 use Rattle.table.proofs.Parts.{count_of_subsystems}
 use Rattle.rules.specs.declared.Rule.TheVariants.{Counts}
 use Rattle.rules.proofs.JudgingLaws.{offenders_from_zero, offender_here, offenders_next, offenders_over, counts_here, counts_nowhere}
@@ -10,7 +11,7 @@ loop-s-init c =
 
 pub returns-then-count_out : goal.returns-then-count_out
 returns-then-count_out c =
-    offender_here _ Counts _ _ _ (omega arith) (counts_here _ _ (omega arith) _ c.count_out.ensures c.if-count_out.true) c.loop-s.invariant
+    c.refused.ensures ∙ offender_here _ Counts _ _ _ (omega arith) (counts_here _ _ (omega arith) _ c.count_out.ensures c.if-count_out.true) c.loop-s.invariant
 
 pub loop-s-preserved : goal.loop-s-preserved
 loop-s-preserved c =

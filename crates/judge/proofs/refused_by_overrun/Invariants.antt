@@ -1,4 +1,5 @@
 -- `judge::refused_by_overrun` meets its contract. Assumes nothing.
+use Prim.Native.Nat.{◌≤◌}
 use mathlib.Core.Path.{◌≡◌}
 use lib.ListN.{replicate}
 use Rattle.lists.specs.Range.{padded}
@@ -11,4 +12,5 @@ use Rattle.judge.proofs.refused_by_overrun.Given as goal
 
 abbrev pub invariant-loop-s : goal.invariant-loop-s
 invariant-loop-s l =
-    OffendersFrom (system_in l.n l.m l.grid) Overrun l.n l.s × (l.holdings ≡ padded (holdings_at (system_in l.n l.m l.grid)) (replicate most 0) most l.s)
+    let sys = system_in l.laid.n l.laid.m l.laid.grid.now in
+    (l.s-end ≤ most) × OffendersFrom sys Overrun l.laid.n l.s × (l.holdings ≡ padded (holdings_at sys) (replicate most 0) most l.s)
