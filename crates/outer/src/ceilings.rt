@@ -30,6 +30,7 @@ pub(crate) fn largest_holding(lines: &[[u32; WIDTH]; Table::MOST], s: usize, m: 
     requires { (s < most) × (m ≤ most) }
     ensures { result ≡ largest_to (held_at lines.now s) m }
 {
+    // A loop, since the largest of no holding times is 0, which `max` of a chain leaves out.
     let mut best: u32 = 0;
     for l in 0..m {
         best = best.max(held(lines, s, l));
@@ -42,12 +43,7 @@ pub(crate) fn outer_ceiling(lines: &[[u32; WIDTH]; Table::MOST], n: usize, l: us
     requires { (1 ≤ n) × (n ≤ most) × (l < most) }
     ensures { result ≡ ceiling_in lines.now n l }
 {
-    for s in 0..n {
-        if 0 < held(lines, s, l) {
-            return s;
-        }
-    }
-    n - 1
+    (0..n).find(|s| 0 < held(lines, *s, l)).unwrap_or(n - 1)
 }
 
 // An array of the first n values, and `empty` in the slots past them.
