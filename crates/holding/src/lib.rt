@@ -10,9 +10,8 @@ ghost use Rattle.holding.specs.Holding.{inner_ceiling};
 ghost use Rattle.holding.specs.Held.{HeldUpTo, IsHeld, slot_of};
 ghost use Rattle.holding.specs.Slots.{Slots, Counted};
 
-use numbers::{larger, wide};
 use table::Table;
-use table::grid::{BLOCK, LINE, access, count, work};
+use table::grid::{Block, access, count, work};
 
 // X(s, l) of each resource, 0 past the last, and X(s), the largest of them.
 #[derive(Clone, Copy)]
@@ -22,17 +21,15 @@ pub struct Held {
 }
 
 // The lowest index of a task that accesses resource l, or the last index where none does.
-pub fn inner_ceiling(block: &[[u32; LINE]; BLOCK], m: usize, l: usize) -> usize
+pub fn inner_ceiling(block: &Block, m: usize, l: usize) -> usize
     requires { Slots block.now m l }
     ensures { result ≡ inner_ceiling (subsystem_in m block.now) l }
 {
     let n = count(block);
-    let mut i = 0;
-    while i < n {
+    for i in 0..n {
         if 0 < access(block, i, l) {
             return i;
         }
-        i += 1;
     }
     n - 1
 }
@@ -54,13 +51,13 @@ fn raise(each: &mut [u64; Table::MOST], l: usize, held: u64, former: u64) -> u64
         return former;
     }
     each[l] = held;
-    larger(former, held)
+    former.max(held)
 }
 
 // Task i joins those before it, whose work is `before`: the longest access with all that can preempt it, of each resource.
 // `former` is X(s) so far. Resources that the task does not access are passed over.
 fn with_task(
-    block: &[[u32; LINE]; BLOCK],
+    block: &Block,
     m: usize,
     i: usize,
     before: u64,
@@ -75,35 +72,30 @@ fn with_task(
     ensures { HeldUpTo block.now m i m each.new above.new result }
 {
     let mut largest = former;
-    let mut l = 0;
-    while l < m {
-        let c = wide(access(block, i, l));
+    for l in 0..m {
+        let c = u64::from(access(block, i, l));
         if c != 0 {
             let top = work_above(each[l], above[l], before);
             let held = top + c;
             above[l] = top;
             largest = raise(each, l, held, largest);
         }
-        l += 1;
     }
     largest
 }
 
 // X(s, l) of each of m resources, and X(s), task by task.
-pub fn held_by(block: &[[u32; LINE]; BLOCK], m: usize) -> Held
+pub fn held_by(block: &Block, m: usize) -> Held
     requires { Counted block.now m }
     ensures { IsHeld m (subsystem_in m block.now) result }
 {
-    let n = count(block);
     let mut each = [0u64; Table::MOST];
     let mut above = [0u64; Table::MOST];
     let mut largest: u64 = 0;
     let mut before: u64 = 0;
-    let mut i = 0;
-    while i < n {
+    for i in 0..count(block) {
         largest = with_task(block, m, i, before, &mut each, &mut above, largest);
-        before += wide(work(block, i));
-        i += 1;
+        before += u64::from(work(block, i));
     }
     Held { each, largest }
 }

@@ -14,25 +14,20 @@ ghost use Rattle.rules.specs.Earlier.{in_order};
 ghost use Rattle.rules.specs.Slots.{CountedGrid};
 
 use holding::held_by;
-use numbers::{index, wide};
 use rules::breaks::count_out;
 use rules::places::with_subsystem;
 use rules::{Judged, Place, Rule};
 use table::Table;
-use table::grid::{BLOCK, LINE, budget, lay_out, period};
+use table::grid::{BLOCK, Grid, LINE, budget, lay_out, period};
 
 // The judgement by rule 1 of the subsystems' own counts.
 pub fn refused_by_counts(t: Table) -> Judged
     requires { t.count ≤ most }
     ensures { result ≡ judged_by (meaning t) Counts }
 {
-    let n = index(t.count);
-    let mut s = 0;
-    while s < n {
-        let count = t.subsystems[s].count;
-        s += 1;
-        if count_out(count) {
-            let subsystem = s as u8;
+    for s in 0..usize::from(t.count) {
+        if count_out(t.subsystems[s].count) {
+            let subsystem = (s + 1) as u8;
             return Judged::Refused(Rule::Counts, Place { subsystem, task: 0 });
         }
     }
@@ -43,36 +38,33 @@ pub fn refused_by_counts(t: Table) -> Judged
 pub fn judge_counts(t: Table) -> Judged
     ensures { result ≡ counts_judged (meaning t) }
 {
-    let place = Place {
-        subsystem: 0,
-        task: 0,
-    };
-    if count_out(t.count) {
-        return Judged::Refused(Rule::Counts, place);
-    }
-    if Table::MOST < index(t.resources) {
-        return Judged::Refused(Rule::Counts, place);
+    if count_out(t.count) || Table::MOST < usize::from(t.resources) {
+        return Judged::Refused(
+            Rule::Counts,
+            Place {
+                subsystem: 0,
+                task: 0,
+            },
+        );
     }
     refused_by_counts(t)
 }
 
 // Rules 2 to 4 in their order, in one pass over the places.
-fn refused_in_order(grid: &[[[u32; LINE]; BLOCK]; Table::MOST], n: usize, m: usize) -> Judged
+fn refused_in_order(grid: &Grid, n: usize, m: usize) -> Judged
     requires { CountedGrid grid.now n m }
     ensures { result ≡ in_order (offender (system_in n m grid.now)) }
 {
     let mut found = Judged::Admitted;
-    let mut s = 0;
-    while s < n {
+    for s in 0..n {
         found = with_subsystem(found, &grid[s], m, (s + 1) as u8);
-        s += 1;
     }
     found
 }
 
 // Rule 5. The holding times that it works out are left for the steps behind it.
 fn refused_by_overrun(
-    grid: &[[[u32; LINE]; BLOCK]; Table::MOST],
+    grid: &Grid,
     n: usize,
     m: usize,
     holdings: &mut [[u64; Table::MOST]; Table::MOST],
@@ -82,17 +74,16 @@ fn refused_by_overrun(
     ensures value { result ≡ judged_by (system_in n m grid.now) Overrun }
     ensures held_in { result ≡ Admitted → HeldIn (system_in n m grid.now) holdings.new }
 {
-    let mut s = 0;
-    while s < n {
+    for s in 0..n {
         let block = &grid[s];
         let held = held_by(block, m);
-        if wide(period(block)) < wide(budget(block)) + held.largest {
+        if u64::from(period(block)) < u64::from(budget(block)) + held.largest {
             let subsystem = (s + 1) as u8;
             return Judged::Refused(Rule::Overrun, Place { subsystem, task: 0 });
         }
+        // An array field is put in a variable before it is stored: the borrow checker does not cover the direct form yet.
         let each = held.each;
         holdings[s] = each;
-        s += 1;
     }
     Judged::Admitted
 }
@@ -100,7 +91,7 @@ fn refused_by_overrun(
 // The judgement of a grid whose counts rule 1 has passed. Where it is admitted, X(s, l) of each subsystem and resource is left
 // in `holdings`.
 pub fn judge_grid(
-    grid: &[[[u32; LINE]; BLOCK]; Table::MOST],
+    grid: &Grid,
     n: usize,
     m: usize,
     holdings: &mut [[u64; Table::MOST]; Table::MOST],
@@ -128,7 +119,12 @@ pub fn judge(t: Table) -> Judged
     let mut grid = [[[0u32; LINE]; BLOCK]; Table::MOST];
     lay_out(t, &mut grid);
     let mut holdings = [[0u64; Table::MOST]; Table::MOST];
-    judge_grid(&grid, index(t.count), index(t.resources), &mut holdings)
+    judge_grid(
+        &grid,
+        usize::from(t.count),
+        usize::from(t.resources),
+        &mut holdings,
+    )
 }
 
 // The judgement of a table that is to hold one subsystem: any other N is refused by rule 1 at 0 0.

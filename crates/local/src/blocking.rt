@@ -8,33 +8,26 @@ ghost use Rattle.holding.specs.Slots.{Slots, Counted};
 ghost use Rattle.holding.specs.Holding.{resource_holding};
 ghost use Rattle.local.specs.Blocking.{task_blocking};
 
-use numbers::longer;
 use table::Table;
-use table::grid::{BLOCK, LINE, access, count};
+use table::grid::{Block, access, count};
 
 // Resource l joins those before it. From the last task up to its inner ceiling, the longest access of the tasks passed is what
 // it can hold up the next one for; the tasks above the ceiling keep their blockings.
-fn raise_by(block: &[[u32; LINE]; BLOCK], m: usize, l: usize, blockings: &mut [u32; Table::MOST])
+fn raise_by(block: &Block, m: usize, l: usize, blockings: &mut [u32; Table::MOST])
     requires slots { Slots block.now m l }
     requires blockings_value { blockings.old ≡ padded (task_blocking l (subsystem_in m block.now)) 0 most (count_in block.now) }
     ensures { blockings.new ≡ padded (task_blocking (l + 1) (subsystem_in m block.now)) 0 most (count_in block.now) }
 {
     let ceiling = holding::inner_ceiling(block, m, l);
     let mut longest: u32 = 0;
-    let mut j = count(block) - 1;
-    while ceiling < j {
-        longest = longer(longest, access(block, j, l));
-        j -= 1;
-        blockings[j] = longer(blockings[j], longest);
+    for i in (ceiling..count(block) - 1).rev() {
+        longest = longest.max(access(block, i + 1, l));
+        blockings[i] = blockings[i].max(longest);
     }
 }
 
 // b(i) of each task, and zeros behind them. One task alone waits for none, and no task accesses a resource whose holding time is 0.
-pub fn task_blockings(
-    block: &[[u32; LINE]; BLOCK],
-    m: usize,
-    held: &[u64; Table::MOST],
-) -> [u32; Table::MOST]
+pub fn task_blockings(block: &Block, m: usize, held: &[u64; Table::MOST]) -> [u32; Table::MOST]
     requires counted { Counted block.now m }
     requires held_value { held.now ≡ padded (resource_holding (subsystem_in m block.now)) 0 most m }
     ensures { result ≡ padded (task_blocking m (subsystem_in m block.now)) 0 most (count_in block.now) }
@@ -43,12 +36,10 @@ pub fn task_blockings(
     if count(block) == 1 {
         return blockings;
     }
-    let mut l = 0;
-    while l < m {
+    for l in 0..m {
         if held[l] != 0 {
             raise_by(block, m, l, &mut blockings);
         }
-        l += 1;
     }
     blockings
 }

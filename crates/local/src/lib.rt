@@ -11,9 +11,8 @@ ghost use Rattle.local.specs.Blocking.{task_blocking};
 ghost use Rattle.local.specs.Passing.{task_passes, first_failing};
 ghost use Rattle.local.specs.Ready.{Ready, TakenOut};
 
-use numbers::wide;
 use table::Table;
-use table::grid::{BLOCK, LINE, budget, count, deadline, period, separation, work};
+use table::grid::{Block, budget, count, deadline, period, separation, work};
 
 pub mod blocking;
 pub mod passing;
@@ -28,7 +27,7 @@ pub struct Share {
 
 // Whether task i passes, from its blocking and the numbers of the tasks above it.
 fn task_passes(
-    block: &[[u32; LINE]; BLOCK],
+    block: &Block,
     m: usize,
     end: u32,
     i: usize,
@@ -40,11 +39,11 @@ fn task_passes(
     requires i_bound { (i < count_in block.now) × (blocked ≡ task_blocking m (subsystem_in m block.now) i) × TakenOut block.now separations.now works.now i }
     ensures { result ≡ task_passes m (subsystem_in m block.now) end i }
 {
-    let constant = wide(blocked) + wide(work(block, i));
+    let constant = u64::from(blocked) + u64::from(work(block, i));
     let share = Share {
         period: period(block),
         budget: budget(block),
-        end: end,
+        end,
     };
     passing::held_within(separations, works, i, constant, deadline(block, i), share)
 }
@@ -52,28 +51,20 @@ fn task_passes(
 // The first failing task of a subsystem with m resources in use and their holding times, whose budget is given among a
 // period's first `end` ticks: 1 for the first task, 0 where every task passes. Each task that passes joins those that the
 // next ones wait for.
-pub fn first_failing_task(
-    block: &[[u32; LINE]; BLOCK],
-    m: usize,
-    held: &[u64; Table::MOST],
-    end: u32,
-) -> u8
+pub fn first_failing_task(block: &Block, m: usize, held: &[u64; Table::MOST], end: u32) -> u8
     requires ready { Ready block.now m end }
     requires held_value { held.now ≡ padded (resource_holding (subsystem_in m block.now)) 0 most m }
     ensures { result ≡ first_failing m (subsystem_in m block.now) end }
 {
     let blockings = blocking::task_blockings(block, m, held);
-    let n = count(block);
     let mut separations = [0u32; Table::MOST];
     let mut works = [0u32; Table::MOST];
-    let mut i = 0;
-    while i < n {
+    for i in 0..count(block) {
         if !task_passes(block, m, end, i, blockings[i], &separations, &works) {
             return (i + 1) as u8;
         }
         separations[i] = separation(block, i);
         works[i] = work(block, i);
-        i += 1;
     }
     0
 }

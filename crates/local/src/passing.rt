@@ -25,16 +25,12 @@ pub fn moment_within(share: Share, deadline: u32, need: u64) -> u32
     requires deadline_lt_reach { (deadline < reach) × (1 ≤ need) }
     ensures { result ≡ min (moment_of share.period share.budget share.end need) (deadline + 1) }
 {
-    let last = numbers::wide(deadline);
+    let last = u64::from(deadline);
     if last < need {
         return deadline + 1;
     }
     let moment = supply::moment_of(share.period, share.budget, share.end, need as u32);
-    if last < moment {
-        deadline + 1
-    } else {
-        moment as u32
-    }
+    moment.min(last + 1) as u32
 }
 
 // Whether the need is held at some moment from 1 to the deadline. A moment that will not do names the next that might,

@@ -9,7 +9,7 @@ ghost use Rattle.rules.specs.Refusal.{number_of};
 
 use crate::breaks::{longest_of_task, own_out_of_range, task_out_of_order, task_out_of_range};
 use crate::{Judged, Place, Rule};
-use table::grid::{BLOCK, LINE, budget, count, period, work};
+use table::grid::{Block, budget, count, period, work};
 
 // The number of a rule.
 pub fn rule_number(rule: Rule) -> u32
@@ -45,24 +45,18 @@ pub fn earlier(found: Judged, next: Judged) -> Judged
 pub fn is_first(found: Judged) -> bool
     ensures { result ≡ is_first found }
 {
-    match found {
-        Judged::Admitted => false,
-        Judged::Refused(rule, _) => rule_number(rule) == 2,
-    }
+    matches!(found, Judged::Refused(Rule::Range, _))
 }
 
 // Whether a judgement is a refusal.
 pub fn is_refused(found: Judged) -> bool
     ensures { result ≡ is_refused found }
 {
-    match found {
-        Judged::Admitted => false,
-        Judged::Refused(_, _) => true,
-    }
+    matches!(found, Judged::Refused(_, _))
 }
 
 // The subsystem's own place, in the table's subsystem of this number.
-fn judged_own(block: &[[u32; LINE]; BLOCK], m: usize, subsystem: u8) -> Judged
+fn judged_own(block: &Block, m: usize, subsystem: u8) -> Judged
     requires { Counted block.now m }
     ensures { result ≡ judged_own m subsystem (subsystem_in m block.now) }
 {
@@ -77,7 +71,7 @@ fn judged_own(block: &[[u32; LINE]; BLOCK], m: usize, subsystem: u8) -> Judged
 }
 
 // A task's place.
-fn judged_task(block: &[[u32; LINE]; BLOCK], m: usize, i: usize, place: Place) -> Judged
+fn judged_task(block: &Block, m: usize, i: usize, place: Place) -> Judged
     requires { (m ≤ most) × (i < most) }
     ensures { result ≡ judged_task m place (task_in m block.now i) }
 {
@@ -95,14 +89,12 @@ fn judged_task(block: &[[u32; LINE]; BLOCK], m: usize, i: usize, place: Place) -
 }
 
 // All places of the subsystem of this number. Where a place breaks nothing, what was found stays where it is.
-pub fn judged_subsystem(block: &[[u32; LINE]; BLOCK], m: usize, subsystem: u8) -> Judged
+pub fn judged_subsystem(block: &Block, m: usize, subsystem: u8) -> Judged
     requires { Counted block.now m }
     ensures { result ≡ judged_subsystem m subsystem (subsystem_in m block.now) }
 {
-    let n = count(block);
     let mut found = judged_own(block, m, subsystem);
-    let mut i = 0;
-    while i < n {
+    for i in 0..count(block) {
         let place = Place {
             subsystem,
             task: (i + 1) as u8,
@@ -111,19 +103,13 @@ pub fn judged_subsystem(block: &[[u32; LINE]; BLOCK], m: usize, subsystem: u8) -
         if is_refused(next) {
             found = earlier(found, next);
         }
-        i += 1;
     }
     found
 }
 
 // What was found so far, with all places of the subsystem of this number. Behind a refusal by rule 2 nothing need be looked
 // at.
-pub fn with_subsystem(
-    found: Judged,
-    block: &[[u32; LINE]; BLOCK],
-    m: usize,
-    subsystem: u8,
-) -> Judged
+pub fn with_subsystem(found: Judged, block: &Block, m: usize, subsystem: u8) -> Judged
     requires { Counted block.now m }
     ensures { result ≡ earlier found (judged_subsystem m subsystem (subsystem_in m block.now)) }
 {

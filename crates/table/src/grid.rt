@@ -12,36 +12,38 @@ pub const LINE: usize = 3 + Table::MOST;
 
 pub const BLOCK: usize = 1 + Table::MOST;
 
+// The numbers of a subsystem itself, or of one of its tasks.
+pub type Line = [u32; LINE];
+
+// A subsystem: its own line, and behind it one for each task.
+pub type Block = [Line; BLOCK];
+
+// A table: a block for each subsystem.
+pub type Grid = [Block; Table::MOST];
+
 // P.
-pub fn period(block: &[[u32; LINE]; BLOCK]) -> u32
+pub fn period(block: &Block) -> u32
     ensures { result ≡ period_in block.now }
 {
     block[0][0]
 }
 
 // Q.
-pub fn budget(block: &[[u32; LINE]; BLOCK]) -> u32
+pub fn budget(block: &Block) -> u32
     ensures { result ≡ budget_in block.now }
 {
     block[0][1]
 }
 
-// A count as an index.
-fn index(x: u32) -> usize
-    ensures { result ≡ x }
-{
-    x as usize
-}
-
 // n.
-pub fn count(block: &[[u32; LINE]; BLOCK]) -> usize
+pub fn count(block: &Block) -> usize
     ensures { result ≡ count_in block.now }
 {
-    index(block[0][2])
+    block[0][2] as usize
 }
 
 // T of the task at index i.
-pub fn separation(block: &[[u32; LINE]; BLOCK], i: usize) -> u32
+pub fn separation(block: &Block, i: usize) -> u32
     requires { i < most }
     ensures { result ≡ separation_in block.now i }
 {
@@ -49,7 +51,7 @@ pub fn separation(block: &[[u32; LINE]; BLOCK], i: usize) -> u32
 }
 
 // C.
-pub fn work(block: &[[u32; LINE]; BLOCK], i: usize) -> u32
+pub fn work(block: &Block, i: usize) -> u32
     requires { i < most }
     ensures { result ≡ work_in block.now i }
 {
@@ -57,7 +59,7 @@ pub fn work(block: &[[u32; LINE]; BLOCK], i: usize) -> u32
 }
 
 // D.
-pub fn deadline(block: &[[u32; LINE]; BLOCK], i: usize) -> u32
+pub fn deadline(block: &Block, i: usize) -> u32
     requires { i < most }
     ensures { result ≡ deadline_in block.now i }
 {
@@ -65,7 +67,7 @@ pub fn deadline(block: &[[u32; LINE]; BLOCK], i: usize) -> u32
 }
 
 // c(i, l).
-pub fn access(block: &[[u32; LINE]; BLOCK], i: usize, l: usize) -> u32
+pub fn access(block: &Block, i: usize, l: usize) -> u32
     requires { (i < most) × (l < most) }
     ensures { result ≡ access_in block.now i l }
 {
@@ -73,34 +75,33 @@ pub fn access(block: &[[u32; LINE]; BLOCK], i: usize, l: usize) -> u32
 }
 
 // The line of a task.
-fn line_of(task: Task) -> [u32; LINE]
+fn line_of(task: Task) -> Line
     ensures { LineOf most task result × IsLine result }
 {
-    let c = task.access;
     [
         task.separation,
         task.work,
         task.deadline,
-        c[0],
-        c[1],
-        c[2],
-        c[3],
-        c[4],
-        c[5],
-        c[6],
-        c[7],
+        task.access[0],
+        task.access[1],
+        task.access[2],
+        task.access[3],
+        task.access[4],
+        task.access[5],
+        task.access[6],
+        task.access[7],
     ]
 }
 
 // Lays a subsystem out in a block. Lines past its tasks stay as they were.
-pub fn lay_out_subsystem(sub: Subsystem, block: &mut [[u32; LINE]; BLOCK])
+pub fn lay_out_subsystem(sub: Subsystem, block: &mut Block)
     requires { (sub.count ≤ most) × HasLines block.old }
     ensures { BlockOf sub block.new × HasLines block.new }
 {
     block[0] = [
         sub.period,
         sub.budget,
-        sub.count as u32,
+        u32::from(sub.count),
         0,
         0,
         0,
@@ -110,26 +111,17 @@ pub fn lay_out_subsystem(sub: Subsystem, block: &mut [[u32; LINE]; BLOCK])
         0,
         0,
     ];
-    let n = sub.count as usize;
-    let mut i = 0;
-    while i < n {
-        let task = sub.tasks[i];
-        let line = line_of(task);
-        block[i + 1] = line;
-        i += 1;
+    for i in 0..usize::from(sub.count) {
+        block[i + 1] = line_of(sub.tasks[i]);
     }
 }
 
 // Lays a table out in a grid, whatever the grid held. Blocks past its subsystems stay as they were.
-pub fn lay_out(t: Table, grid: &mut [[[u32; LINE]; BLOCK]; Table::MOST])
+pub fn lay_out(t: Table, grid: &mut Grid)
     requires { HasRoom t × HasBlocks grid.old }
     ensures { system_in t.count t.resources grid.new ≡ meaning t }
 {
-    let n = t.count as usize;
-    let mut s = 0;
-    while s < n {
-        let sub = t.subsystems[s];
-        lay_out_subsystem(sub, &mut grid[s]);
-        s += 1;
+    for s in 0..usize::from(t.count) {
+        lay_out_subsystem(t.subsystems[s], &mut grid[s]);
     }
 }

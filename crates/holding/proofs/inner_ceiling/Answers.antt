@@ -1,4 +1,3 @@
-use borrow.Author.Rules.{rules}
 use Prim.Native.Nat.{ℕ}
 use mathlib.Core.Path.{ap, ◌∙◌}
 use Prim.Native.Nat.{◌-◌}
@@ -8,16 +7,16 @@ use Rattle.holding.proofs.inner_ceiling.Goals as goal
 
 pub loop-i-init : goal.loop-i-init
 loop-i-init c =
-    (search rules, search rules, ceiling_from_zero _ _)
+    ceiling_from_zero _ _
 
 pub returns-then-access-gt0 : goal.returns-then-access-gt0
 returns-then-access-gt0 c =
-    ceiling_here c.args.block.now c.args.l c.args.m c.requires.listed c.loop-i.i _ (omega arith) c.access.ensures c.if-access-gt0.true c.loop-i.invariant.2
+    ceiling_here c.args.block.now c.args.l c.args.m c.requires.listed c.loop-i.i _ (omega arith) c.access.ensures c.if-access-gt0.true c.loop-i.invariant
 
 pub loop-i-preserved : goal.loop-i-preserved
 loop-i-preserved c =
-    (search rules, search rules, ceiling_next c.args.block.now c.args.l c.loop-i.i _ (omega arith) c.access.ensures c.if-access-gt0.false c.loop-i.invariant.2)
+    ceiling_next c.args.block.now c.args.l c.loop-i.i _ (omega arith) c.access.ensures c.if-access-gt0.false c.loop-i.invariant
 
 pub returns : goal.returns
 returns c =
-    ap (λ (n : ℕ). n - 1) c.loop-i.invariant.0 ∙ ceiling_over c.args.block.now c.args.l c.args.m c.requires.listed c.loop-i.i (omega arith) c.loop-i.invariant.2
+    ap (λ (n : ℕ). n - 1) c.count-n.ensures ∙ ceiling_over c.args.block.now c.args.l c.args.m c.requires.listed c.loop-i.i (omega arith) c.loop-i.invariant

@@ -1,6 +1,6 @@
 -- `judge::judge_grid` meets its contract. Assumes nothing.
 use mathlib.Core.Path.{sym, ◌∙◌}
-use Rattle.rules.proofs.OrderLaws.{refused_not_admitted, refusal_stands, next_judges, past_counts, counted_grid}
+use Rattle.rules.proofs.OrderLaws.{refusal_stands, next_judges, past_counts, counted_grid}
 use Rattle.rules.proofs.EarlierLaws.{rule_5_last}
 use Rattle.judge.proofs.judge_grid.Goals as goal
 
@@ -8,20 +8,17 @@ pub refused_in_order-found-requires : goal.refused_in_order-found-requires
 refused_in_order-found-requires c =
     counted_grid _ _ _ c.requires.grid_value
 
-pub returns-in_default : goal.returns-in_default
-returns-in_default c =
-    record { value = refusal_stands _ _ _ _ _ c.refused_in_order-found.ensures c.in_default.is ∙ rule_5_last _ ∙ past_counts _ c.requires.grid_value; held_in = λ e. absurd (refused_not_admitted _ _ (sym c.in_default.is ∙ e)) }
+pub returns-in_default-clause-value : goal.returns-in_default-clause-value
+returns-in_default-clause-value c =
+    refusal_stands _ _ _ _ _ c.refused_in_order-found.ensures c.in_default.is ∙ rule_5_last _ ∙ past_counts _ c.requires.grid_value
 
-pub refused_by_overrun-requires : goal.refused_by_overrun-requires
-refused_by_overrun-requires c =
-    record { counted_grid = counted_grid _ _ _ c.requires.grid_value; holdings_value = c.requires.holdings_value }
+pub refused_by_overrun-requires-clause-counted_grid : goal.refused_by_overrun-requires-clause-counted_grid
+refused_by_overrun-requires-clause-counted_grid c =
+    counted_grid _ _ _ c.requires.grid_value
 
-pub returns : goal.returns
-returns c =
-    record {
-      value = c.refused_by_overrun.ensures.value ∙
-          sym (next_judges _ _ _ c.refused_in_order-found.ensures c.in-Admitted.is) ∙
-          rule_5_last _ ∙
-          past_counts _ c.requires.grid_value;
-      held_in = c.refused_by_overrun.ensures.held_in;
-    }
+pub returns-clause-value : goal.returns-clause-value
+returns-clause-value c =
+    c.refused_by_overrun.ensures.value ∙
+    sym (next_judges _ _ _ c.refused_in_order-found.ensures c.in-Admitted.is) ∙
+    rule_5_last _ ∙
+    past_counts _ c.requires.grid_value

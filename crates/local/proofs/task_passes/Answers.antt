@@ -23,8 +23,8 @@ held_within-requires c =
         end_by_period = omega (arith, c.period.ensures, c.requires.ready.end_by_period);
       };
       le_constant = (
-        omega (arith, c.wide-2.ensures.0, c.work.ensures, ok.work_least),
-        omega (arith, c.wide.ensures.1, c.wide-2.ensures.1),
+        omega (arith, c.from-2.ensures, c.work.ensures, ok.work_least),
+        omega (arith, c.from.ensures, c.from-2.ensures),
         omega (arith, c.deadline.ensures, ok.deadline_most),
       );
     }
@@ -32,4 +32,4 @@ held_within-requires c =
 pub returns : goal.returns
 returns c =
     c.held_within.ensures ∙
-    passes_by_block c.args.m c.args.block.now c.requires.ready.sound c.args.i c.requires.i_bound.0 _ _ c.requires.i_bound.2 c.args.end _ _ _ (c.wide.ensures.0 ∙ c.requires.i_bound.1) (c.wide-2.ensures.0 ∙ c.work.ensures) c.deadline.ensures _ _ c.period.ensures c.budget.ensures
+    passes_by_block c.args.m c.args.block.now c.requires.ready.sound c.args.i c.requires.i_bound.0 _ _ c.requires.i_bound.2 c.args.end _ _ _ (c.from.ensures ∙ c.requires.i_bound.1) (c.from-2.ensures ∙ c.work.ensures) c.deadline.ensures _ _ c.period.ensures c.budget.ensures

@@ -1,6 +1,6 @@
--- `local::blocking::raise_by` meets its contract. The loop's invariant: the tasks from j on are raised, and the longest access is that
--- behind j. Assumes nothing.
-use Prim.Native.Nat.{ℕ, ◌≤◌, ◌<◌}
+-- `local::blocking::raise_by` meets its contract. The loop's invariant: the tasks from i on are raised, and the longest access is that
+-- behind i. Assumes nothing.
+use Prim.Native.Nat.{ℕ, ◌≤◌}
 use mathlib.Core.Path.{◌≡◌}
 use mathlib.Core.List.{List}
 use Rattle.lists.specs.Range.{behind, padded}
@@ -13,9 +13,6 @@ use Rattle.local.proofs.blocking.raise_by.Given as goal
 abbrev columnOf : List (List ℕ) → ℕ → ℕ → ℕ
 columnOf block l j = access_in block j l
 
-abbrev pub invariant-loop-j : goal.invariant-loop-j
-invariant-loop-j l =
-    (l.ceiling ≤ l.j) × (l.j < count_in l.block) × (l.longest ≡ behind (columnOf l.block l.l) (count_in l.block) l.j) × (l.blockings ≡ padded (raised_from (columnOf l.block l.l) (count_in l.block) (task_blocking l.l (subsystem_in l.m l.block)) most l.j) 0 most (count_in l.block))
-
-abbrev pub decreases-loop-j : goal.decreases-loop-j
-decreases-loop-j l = l.j
+abbrev pub invariant-loop-i : goal.invariant-loop-i
+invariant-loop-i l =
+    (l.ceiling ≤ l.i) × (l.longest ≡ behind (columnOf l.block l.l) (count_in l.block) l.i) × (l.blockings ≡ padded (raised_from (columnOf l.block l.l) (count_in l.block) (task_blocking l.l (subsystem_in l.m l.block)) most l.i) 0 most (count_in l.block))

@@ -1,6 +1,5 @@
 -- `local::blocking::task_blockings` meets its contract. The loop's invariant: the blockings are those by the first l resources. Assumes
 -- nothing.
-use Prim.Native.Nat.{◌≤◌, ◌-◌}
 use mathlib.Core.Path.{◌≡◌}
 use Rattle.lists.specs.Range.{padded}
 use Rattle.table.specs.Limits.{most}
@@ -9,7 +8,4 @@ use Rattle.local.specs.Blocking.{task_blocking}
 use Rattle.local.proofs.blocking.task_blockings.Given as goal
 
 abbrev pub invariant-loop-l : goal.invariant-loop-l
-invariant-loop-l l = (l.l ≤ l.m) × (l.blockings ≡ padded (task_blocking l.l (subsystem_in l.m l.block)) 0 most (count_in l.block))
-
-abbrev pub decreases-loop-l : goal.decreases-loop-l
-decreases-loop-l l = l.m - l.l
+invariant-loop-l l = l.blockings ≡ padded (task_blocking l.l (subsystem_in l.m l.block)) 0 most (count_in l.block)

@@ -1,4 +1,3 @@
-use borrow.Author.Rules.{rules}
 use native.Mathlib.Omega.{arith}
 use mathlib.Core.Path.{sym, ap, ◌∙◌}
 use Rattle.rules.specs.Earlier.{earlier}
@@ -8,16 +7,13 @@ use Rattle.rules.proofs.places.judged_subsystem.Goals as goal
 
 pub loop-i-init : goal.loop-i-init
 loop-i-init c =
-    (search rules, search rules, judged_own_lem _ _ _ _ c.judged_own-found.ensures)
+    judged_own_lem _ _ _ _ c.judged_own-found.ensures
 
 pub loop-i-preserved : goal.loop-i-preserved
-loop-i-preserved c = (
-  search rules,
-  search rules,
-  judged_task_lem c.args.m c.args.subsystem c.args.block.now c.loop-i.i c.loop-i.found _ (omega arith) c.loop-i.invariant.2
-      ((elim c.if-is_refused.branch [ then-is_refused w ↦ w.found-is ∙ w.earlier-found.ensures | else-is_refused w ↦ w.found-is ∙ as_it_was c.loop-i.found c.judged_task-next.result (sym c.is_refused.ensures ∙ w.if-is_refused.false) ]) ∙ ap (earlier c.loop-i.found) c.judged_task-next.ensures),
-)
+loop-i-preserved c =
+    judged_task_lem c.args.m c.args.subsystem c.args.block.now c.loop-i.i c.loop-i.found _ (omega arith) c.loop-i.invariant
+    ((elim c.if-is_refused.branch [ then-is_refused w ↦ w.found-is ∙ w.earlier-found.ensures | else-is_refused w ↦ w.found-is ∙ as_it_was c.loop-i.found c.judged_task-next.result (sym c.is_refused.ensures ∙ w.if-is_refused.false) ]) ∙ ap (earlier c.loop-i.found) c.judged_task-next.ensures)
 
 pub returns : goal.returns
 returns c =
-    judged_all c.args.m c.args.subsystem c.args.block.now c.loop-i.i c.loop-i.found (omega (arith, c.loop-i-test.false, c.loop-i.invariant.0, c.loop-i.invariant.1)) c.loop-i.invariant.2
+    judged_all c.args.m c.args.subsystem c.args.block.now c.loop-i.i c.loop-i.found (omega (arith, c.count-i-end.ensures)) c.loop-i.invariant
