@@ -36,8 +36,7 @@ fn read_tasks(file: &[u8], at: usize, n: usize, m: usize, block: &mut [[u32; LIN
     ensures { IsPart (tasks_refusal file.now m at) file.now m at block.new result }
 {
     let mut place = at + (START + SUBSYSTEM_LENGTH);
-    let mut i = 0;
-    while i < n {
+    for i in 0..n {
         let rest = &file[place..];
         let answer = judge(rest, TASK, TASK_START + NUMBER * m);
         let FieldAnswer::Sound(len) = answer else {
@@ -48,7 +47,6 @@ fn read_tasks(file: &[u8], at: usize, n: usize, m: usize, block: &mut [[u32; LIN
         };
         decode_task(value(rest, len), m, &mut block[i + 1]);
         place += START + len;
-        i += 1;
     }
     Part {
         answer: ReadAnswer::Whole,
@@ -86,15 +84,12 @@ fn read_subsystems(
     ensures { IsBody file.now n m grid.new result }
 {
     let mut at = START + HEADER_LENGTH;
-    let mut s = 0;
-    while s < n {
+    for s in 0..n {
         let part = read_subsystem(file, at, m, &mut grid[s]);
-        let answer = part.answer;
-        let ReadAnswer::Whole = answer else {
-            return answer;
+        let ReadAnswer::Whole = part.answer else {
+            return part.answer;
         };
         at = part.next;
-        s += 1;
     }
     if at < file.len() {
         return ReadAnswer::Refused(Fault::LeftOver, at);
@@ -121,7 +116,7 @@ pub fn read_grid(file: &[u8], grid: &mut [[[u32; LINE]; BLOCK]; Table::MOST]) ->
     let n = header[1];
     let m = header[2];
     Head {
-        answer: read_subsystems(file, n as usize, m as usize, grid),
+        answer: read_subsystems(file, usize::from(n), usize::from(m), grid),
         count: n,
         resources: m,
     }

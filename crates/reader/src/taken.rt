@@ -16,14 +16,14 @@ fn task_of(block: &[[u32; LINE]; BLOCK], i: usize, m: usize) -> Task
     requires { (i < most) × (m ≤ most) }
     ensures { result ≡ task_with (task_in m block.now i) }
 {
-    let mut task = Task::zeros();
-    task.separation = grid::separation(block, i);
-    task.work = grid::work(block, i);
-    task.deadline = grid::deadline(block, i);
-    let mut l = 0;
-    while l < m {
+    let mut task = Task {
+        separation: grid::separation(block, i),
+        work: grid::work(block, i),
+        deadline: grid::deadline(block, i),
+        ..Task::zeros()
+    };
+    for l in 0..m {
         task.access[l] = grid::access(block, i, l);
-        l += 1;
     }
     task
 }
@@ -34,15 +34,14 @@ fn subsystem_of(block: &[[u32; LINE]; BLOCK], m: usize) -> Subsystem
     ensures { result ≡ subsystem_with (subsystem_in m block.now) }
 {
     let n = grid::count(block);
-    let mut sub = Subsystem::zeros();
-    sub.period = grid::period(block);
-    sub.budget = grid::budget(block);
-    sub.count = n as u8;
-    let mut i = 0;
-    while i < n {
-        let task = task_of(block, i, m);
-        sub.tasks[i] = task;
-        i += 1;
+    let mut sub = Subsystem {
+        period: grid::period(block),
+        budget: grid::budget(block),
+        count: n as u8,
+        ..Subsystem::zeros()
+    };
+    for i in 0..n {
+        sub.tasks[i] = task_of(block, i, m);
     }
     sub
 }
@@ -52,14 +51,13 @@ pub fn table_of(grid: &[[[u32; LINE]; BLOCK]; Table::MOST], n: u8, m: u8) -> Tab
     requires { (n ≤ most) × ((m ≤ most) × BlocksFit n grid.now) }
     ensures { result ≡ table_with (system_in n m grid.now) }
 {
-    let mut t = Table::zeros();
-    t.count = n;
-    t.resources = m;
-    let mut s = 0;
-    while s < n as usize {
-        let sub = subsystem_of(&grid[s], m as usize);
-        t.subsystems[s] = sub;
-        s += 1;
+    let mut t = Table {
+        count: n,
+        resources: m,
+        ..Table::zeros()
+    };
+    for s in 0..usize::from(n) {
+        t.subsystems[s] = subsystem_of(&grid[s], usize::from(m));
     }
     t
 }
@@ -71,12 +69,10 @@ pub fn read_table(file: &[u8]) -> Reading
 {
     let mut grid = [[[0u32; LINE]; BLOCK]; Table::MOST];
     let head = read_grid(file, &mut grid);
-    let answer = head.answer;
-    let ReadAnswer::Whole = answer else {
-        let zeros = Table::zeros();
+    let ReadAnswer::Whole = head.answer else {
         return Reading {
-            answer: answer,
-            table: zeros,
+            answer: head.answer,
+            table: Table::zeros(),
         };
     };
     Reading {

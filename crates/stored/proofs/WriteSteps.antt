@@ -5,14 +5,15 @@ use native.Mathlib.Nat.{div-one}
 use native.Mathlib.Omega.{arith}
 use mathlib.Core.Path.{◌≡◌, refl, sym, ap, ap₂, ◌∙◌}
 use mathlib.Core.List.{List, [], ◌∷◌, ◌++◌, append_assoc, append-nil, flat_map}
-use lib.ListN.{length, take, drop, set, length-append, length-drop, drop_of_length-le}
-use lib.Seq.{take_at, drop_at, drop-drop}
+use lib.ListN.{length, get_or, take, drop, set, length-append, length-take, length-drop, drop_of_length-le}
+use lib.Seq.{take_at, drop_at, drop-drop, get_or-take}
+use Rattle.std.specs.Int.{w32, w64, to_be_bytes}
 use Rattle.lists.specs.Range.{up_to}
 use Rattle.stored.specs.Numbers.{big_endian, number_size}
 use Rattle.stored.specs.Field.{start_size, field, header_length, version}
 use Rattle.stored.specs.File.{number_bytes, header_value}
 use Rattle.stored.specs.Write.{written, IsPut}
-use Rattle.stored.proofs.Numbers.{big_endian_four, four_stores}
+use Rattle.stored.proofs.Numbers.{length_big_endian, big_endian_four, four_stores}
 use Rattle.stored.proofs.Offsets.{part_from, part_to_the_end}
 use Rattle.stored.proofs.FileLaws.{flat_map_none, flat_map_one_more, flat_map_grows}
 
@@ -73,6 +74,14 @@ module _ (before done buf : List ℕ) (at : ℕ) (put : IsPut done before buf at
 pub nothing_put : (buf : List ℕ) → IsPut [] buf buf 0
 nothing_put buf = record { counted = refl; left = sym (written_none buf) }
 
+-- A loop over the first k elements of a list: the place where it is lies before k, and the element is the list's own.
+module _ {A : Type 0} (k i : ℕ) (xs : List A) (h : i < length (take k xs)) where
+  pub among_the_first : (n : ℕ) → k ≡ n → i < n
+  among_the_first n e = omega (arith, length-take k xs, h, e)
+
+  pub bytes_of_element : (g : A → List ℕ) (d : A) → g (get_or (take k xs) i d) ≡ g (get_or xs i d)
+  bytes_of_element g d = ap g (get_or-take k xs i d (among_the_first k refl))
+
 -- The same bytes in other words.
 pub put_the_same : (bytes others before after : List ℕ) (n : ℕ) → bytes ≡ others → IsPut bytes before after n → IsPut others before after n
 put_the_same bytes others before after n e put = rw (← e) put
@@ -87,6 +96,15 @@ number_is_put buf x h =
       counted = rw big_endian_four refl;
       left = rw big_endian_four (four_stores buf _ _ _ _ h);
     }
+
+-- Bytes that are copied to the start of a buffer in one go, and those of a number.
+pub copied_is_put : (buf bytes copy : List ℕ) (n : ℕ) → copy ≡ bytes → length bytes ≡ n → IsPut bytes buf (copy ++ drop n buf) n
+unfolding written
+copied_is_put buf bytes copy n e size = record { counted = sym size; left = rw (e, size) refl }
+
+pub number_copied : (buf bytes : List ℕ) (x : ℕ) → bytes ≡ to_be_bytes w32 x → IsPut (number_bytes x) buf (bytes ++ drop number_size buf) number_size
+unfolding number_bytes
+number_copied buf bytes x e = copied_is_put buf (number_bytes x) bytes number_size (e ∙ sym (big_endian_four x)) (length_big_endian number_size x)
 
 one_store : (buf : List ℕ) (a : ℕ) → 1 ≤ length buf → set buf 0 a ≡ a ∷ drop 1 buf
 one_store [] a h = absurd (omega arith)
@@ -115,6 +133,14 @@ start_is_put buf tag len h =
 pub header_value_is_put : (buf : List ℕ) (n m : ℕ) → header_length ≤ length buf → IsPut (header_value n m) buf (set (set (set buf 0 version) 1 n) 2 m) header_length
 unfolding header_value written
 header_value_is_put buf n m h = record { counted = refl; left = three_stores buf version n m h }
+
+-- Tag and length, as they are copied: of the length the two lowest of the bytes that the program has of it.
+pub start_copied : (buf : List ℕ) (tag len : ℕ) (bytes copy : List ℕ) → bytes ≡ to_be_bytes w64 len → copy ≡ tag ∷ get_or bytes 6 0 ∷ get_or bytes 7 0 ∷ [] → IsPut ((tag ∷ []) ++ big_endian 2 len) buf (copy ++ drop start_size buf) start_size
+unfolding big_endian
+start_copied buf tag len bytes copy e f =
+    copied_is_put buf ((tag ∷ []) ++ big_endian 2 len) copy start_size
+    (rw (f, e) (ap (λ (x : ℕ). tag ∷ len / 256 % 256 ∷ x % 256 ∷ []) (sym (div-one len))))
+    refl
 
 -- A value behind tag and length makes the field.
 pub field_of_start : (tag : ℕ) (v : List ℕ) (len : ℕ) → length v ≡ len → ((tag ∷ []) ++ big_endian 2 len) ++ v ≡ field tag v

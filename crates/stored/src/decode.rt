@@ -8,7 +8,7 @@ ghost use Rattle.stored.specs.Decode.{decoded_subsystem, decoded_task};
 ghost use Rattle.stored.specs.HeadLine.{HeadLine};
 
 use crate::fields::COUNT_AT;
-use crate::number::{NUMBER, number_at, wide};
+use crate::number::{NUMBER, number_at};
 use table::grid::LINE;
 
 // Where the second and the third number of a value stand.
@@ -26,7 +26,7 @@ pub fn decode_subsystem(value: &[u8], line: &mut [u32; LINE])
 {
     line[0] = number_at(value, 0);
     line[1] = number_at(value, SECOND);
-    line[2] = wide(value[COUNT_AT]);
+    line[2] = u32::from(value[COUNT_AT]);
 }
 
 // A task's times and its access to each of m resources, into its line; the rest of the line stays as it was.
@@ -38,9 +38,7 @@ pub fn decode_task(value: &[u8], m: usize, line: &mut [u32; LINE])
     line[0] = number_at(value, 0);
     line[1] = number_at(value, SECOND);
     line[2] = number_at(value, THIRD);
-    let mut l = 0;
-    while l < m {
+    for l in 0..m {
         line[l + 3] = number_at(value, TASK_START + NUMBER * l);
-        l += 1;
     }
 }

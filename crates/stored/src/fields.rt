@@ -5,7 +5,6 @@ ghost use Rattle.stored.specs.Field.{start_size, field_size, stated_length, valu
 ghost use Rattle.stored.specs.Judge.{judge_field, any_value, judge_header, judge_subsystem, header_in_range};
 
 use crate::{Fault, FieldAnswer};
-use numbers::index;
 use rules::breaks::count_out;
 use table::Table;
 
@@ -27,25 +26,26 @@ pub const SUBSYSTEM_LENGTH: usize = 9;
 pub const COUNT_AT: usize = SUBSYSTEM_LENGTH - 1;
 
 // The length that the field at the start of `rest` states.
+#[tactic(auto, unfolding(crate::specs::Field::stated_length, crate::specs::Numbers::spelled))]
 pub fn stated_length(rest: &[u8]) -> usize
     requires { start_size ≤ length rest.now }
     ensures { (result ≡ stated_length rest.now) × (result < 65536) }
 {
-    index(rest[1]) * 256 + index(rest[2])
+    usize::from(u16::from_be_bytes([rest[1], rest[2]]))
 }
 
 // The judgement of `rest` where a field with this tag and this length is due; nothing of its value is judged.
+#[tactic(auto, unfolding(crate::specs::Judge::judge_field, crate::specs::Judge::any_value, crate::specs::Field::tag_of))]
 pub fn judge(rest: &[u8], tag: u8, due: usize) -> FieldAnswer
     ensures { result ≡ judge_field tag due any_value rest.now }
 {
     if rest.len() < START {
         return FieldAnswer::Faulty(Fault::Short);
     }
-    let found = rest[0];
-    let len = stated_length(rest);
-    if found != tag {
+    if rest[0] != tag {
         return FieldAnswer::Faulty(Fault::OtherTag);
     }
+    let len = stated_length(rest);
     if len != due {
         return FieldAnswer::Faulty(Fault::OtherLength);
     }
@@ -56,6 +56,7 @@ pub fn judge(rest: &[u8], tag: u8, due: usize) -> FieldAnswer
 }
 
 // The field walk: the value of the field at the start of `rest`, as a part of it.
+#[tactic(auto, unfolding(crate::specs::Field::value_of))]
 pub fn value(rest: &[u8], len: usize) -> &[u8]
     requires { field_size len ≤ length rest.now }
     ensures { result.now ≡ value_of len rest.now }
@@ -64,17 +65,12 @@ pub fn value(rest: &[u8], len: usize) -> &[u8]
 }
 
 // Whether a header's value has the version and counts in range.
+#[tactic(auto, unfolding(crate::specs::Judge::header_in_range))]
 fn header_in_range(value: &[u8]) -> bool
     requires { header_length ≤ length value.now }
     ensures { result ≡ header_in_range value.now }
 {
-    if value[0] != VERSION {
-        return false;
-    }
-    if count_out(value[1]) {
-        return false;
-    }
-    index(value[2]) <= Table::MOST
+    value[0] == VERSION && !count_out(value[1]) && usize::from(value[2]) <= Table::MOST
 }
 
 // The judgement of `rest` where a header is due.

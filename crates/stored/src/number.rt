@@ -12,19 +12,16 @@ pub const NUMBER: usize = 4;
 pub fn wide(b: u8) -> u32
     ensures { (result ≡ b) × (result < 256) }
 {
-    b as u32
+    u32::from(b)
 }
 
 // The number that the four bytes from `at` on spell.
+#[tactic(auto, unfolding(crate::specs::Numbers::number_at, crate::specs::Numbers::spelled))]
 pub fn number_at(value: &[u8], at: usize) -> u32
     requires { at + 4 ≤ length value.now }
     ensures { result ≡ number_at value.now at }
 {
-    let a = wide(value[at]);
-    let b = wide(value[at + 1]);
-    let c = wide(value[at + 2]);
-    let d = wide(value[at + 3]);
-    a * 16777216 + b * 65536 + c * 256 + d
+    u32::from_be_bytes([value[at], value[at + 1], value[at + 2], value[at + 3]])
 }
 
 // Puts the four bytes of x at the start of the free bytes.
@@ -32,9 +29,6 @@ pub fn put_number(free: &mut [u8], x: u32) -> usize
     requires { number_size ≤ length free.old }
     ensures { IsPut (number_bytes x) free.old free.new result }
 {
-    free[0] = (x / 16777216 % 256) as u8;
-    free[1] = (x / 65536 % 256) as u8;
-    free[2] = (x / 256 % 256) as u8;
-    free[3] = (x % 256) as u8;
+    free[..NUMBER].copy_from_slice(&x.to_be_bytes());
     NUMBER
 }

@@ -26,19 +26,16 @@ use table::Table;
 pub fn file_length(t: Table) -> usize
     ensures { result ≡ length (file_of (meaning t)) }
 {
-    let n = t.count as usize;
-    let m = t.resources as usize;
+    let m = usize::from(t.resources);
     let task_size = START + (TASK_START + NUMBER * m);
     let mut total = START + HEADER_LENGTH;
-    let mut s = 0;
-    while s < n {
-        let mut tasks = 0;
-        if s < Table::MOST {
-            let sub = t.subsystems[s];
-            tasks = sub.count as usize;
-        }
+    for s in 0..usize::from(t.count) {
+        let tasks = if s < Table::MOST {
+            usize::from(t.subsystems[s].count)
+        } else {
+            0
+        };
         total += START + SUBSYSTEM_LENGTH + tasks * task_size;
-        s += 1;
     }
     total
 }
@@ -49,14 +46,10 @@ fn put_subsystems(free: &mut [u8], t: Table) -> usize
     requires count_in_bounds { length (flat_map subsystem_bytes (up_to (subsystem_at t) t.count)) ≤ length free.old }
     ensures { IsPut (flat_map subsystem_bytes (up_to (subsystem_at t) t.count)) free.old free.new result }
 {
-    let n = t.count as usize;
-    let m = t.resources as usize;
+    let m = usize::from(t.resources);
     let mut at = 0;
-    let mut s = 0;
-    while s < n {
-        let sub = t.subsystems[s];
+    for &sub in &t.subsystems[..usize::from(t.count)] {
         at += put_subsystem(&mut free[at..], sub, m);
-        s += 1;
     }
     at
 }
@@ -78,14 +71,12 @@ pub fn write_table(t: Table, buf: &mut [u8]) -> WriteAnswer
     ensures value { result ≡ write_of (meaning t) (length buf.old) }
     ensures buf_after { buf.new ≡ buffer_after (meaning t) buf.old }
 {
-    let counts = judge_counts(t);
-    if let Judged::Refused(_, place) = counts {
+    if let Judged::Refused(_, place) = judge_counts(t) {
         return WriteAnswer::Uncounted(place);
     }
     let len = file_length(t);
     if buf.len() < len {
         return WriteAnswer::NoRoom;
     }
-    let put = put_file(buf, t);
-    WriteAnswer::Written(put)
+    WriteAnswer::Written(put_file(buf, t))
 }

@@ -20,9 +20,8 @@ fn put_start(free: &mut [u8], tag: u8, len: usize) -> usize
     requires { start_size ≤ length free.old }
     ensures { IsPut ((tag ∷ []) ++ big_endian 2 len) free.old free.new result }
 {
-    free[0] = tag;
-    free[1] = (len / 256 % 256) as u8;
-    free[2] = (len % 256) as u8;
+    let [.., high, low] = len.to_be_bytes();
+    free[..START].copy_from_slice(&[tag, high, low]);
     START
 }
 
@@ -30,9 +29,7 @@ fn put_header_value(free: &mut [u8], n: u8, m: u8) -> usize
     requires { header_length ≤ length free.old }
     ensures { IsPut (header_value n m) free.old free.new result }
 {
-    free[0] = VERSION;
-    free[1] = n;
-    free[2] = m;
+    free[..HEADER_LENGTH].copy_from_slice(&[VERSION, n, m]);
     HEADER_LENGTH
 }
 
@@ -52,11 +49,8 @@ fn put_accesses(free: &mut [u8], task: Task, m: usize) -> usize
     ensures { IsPut (flat_map number_bytes (up_to (access_at task) m)) free.old free.new result }
 {
     let mut at = 0;
-    let mut l = 0;
-    while l < m {
-        let c = task.access[l];
+    for &c in &task.access[..m] {
         at += put_number(&mut free[at..], c);
-        l += 1;
     }
     at
 }
@@ -133,13 +127,9 @@ fn put_tasks(free: &mut [u8], sub: Subsystem, m: usize) -> usize
     requires count_in_bounds { length (flat_map task_field (up_to (task_at m sub) sub.count)) ≤ length free.old }
     ensures { IsPut (flat_map task_field (up_to (task_at m sub) sub.count)) free.old free.new result }
 {
-    let n = sub.count as usize;
     let mut at = 0;
-    let mut i = 0;
-    while i < n {
-        let task = sub.tasks[i];
+    for &task in &sub.tasks[..usize::from(sub.count)] {
         at += put_task(&mut free[at..], task, m);
-        i += 1;
     }
     at
 }

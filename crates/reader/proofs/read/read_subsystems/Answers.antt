@@ -20,8 +20,8 @@ loop-s-preserved c =
 
 pub returns-then-at-file : goal.returns-then-at-file
 returns-then-at-file c =
-    left_over_stops c.args.file.now c.args.m c.args.n c.loop-s.s c.loop-s.at c.loop-s.grid c.loop-s.invariant c.loop-s-test.false c.if-at-file.true
+    left_over_stops c.args.file.now c.args.m c.args.n c.loop-s.s c.loop-s.at c.loop-s.grid c.loop-s.invariant (omega arith) c.if-at-file.true
 
 pub returns : goal.returns
 returns c =
-    subsystems_end c.args.file.now c.args.m c.args.n c.loop-s.s c.loop-s.at c.loop-s.grid c.loop-s.invariant c.loop-s-test.false c.if-at-file.false c.requires.n_le_most.1 c.requires.m_le_most.1
+    subsystems_end c.args.file.now c.args.m c.args.n c.loop-s.s c.loop-s.at c.loop-s.grid c.loop-s.invariant (omega arith) c.if-at-file.false c.requires.n_le_most.1 c.requires.m_le_most.1

@@ -45,4 +45,4 @@ loop-i-preserved c =
 
 pub returns : goal.returns
 returns c =
-    tasks_end c.args.file.now c.args.m c.args.at c.args.n c.loop-i.i c.loop-i.place c.loop-i.block c.loop-i.invariant c.loop-i-test.false c.requires.m_le_most.1.1
+    tasks_end c.args.file.now c.args.m c.args.at c.args.n c.loop-i.i c.loop-i.place c.loop-i.block c.loop-i.invariant (omega arith) c.requires.m_le_most.1.1

@@ -9,7 +9,7 @@ read_grid-head-requires c =
 
 pub returns-in_default : goal.returns-in_default
 returns-in_default c =
-    refused_is_read _ _ c.read_grid-head.result c.read_grid-head.ensures c.in_default.field-0 c.in_default.field-1 c.zeros-zeros.result c.in_default.is c.zeros-zeros.ensures
+    refused_is_read _ _ c.read_grid-head.result c.read_grid-head.ensures c.in_default.field-0 c.in_default.field-1 c.zeros.result c.in_default.is c.zeros.ensures
 
 pub table_of-requires : goal.table_of-requires
 table_of-requires c =

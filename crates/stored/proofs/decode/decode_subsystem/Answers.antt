@@ -4,6 +4,6 @@ use Rattle.stored.proofs.decode.decode_subsystem.Goals as goal
 
 pub returns : goal.returns
 returns c = (
-  head_line_is c.args.line.now c.requires.line _ _ _ c.args.value.now c.number_at.ensures c.number_at-2.ensures c.wide.ensures.0,
+  head_line_is c.args.line.now c.requires.line _ _ _ c.args.value.now c.number_at.ensures c.number_at-2.ensures c.from.ensures,
   started_line c.args.line.now c.requires.line _ _ _,
 )
