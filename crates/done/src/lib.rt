@@ -14,7 +14,6 @@ ghost use Rattle.job.specs.Sound.{SoundView, FirstEnd};
 ghost use Rattle.done.specs.Done.{FirstDone, EndsDone, Alone};
 
 use job::{HORIZON, Job, Own, Worst, worse};
-use numbers::wide;
 use row::{Row, row_with, row_without};
 use search::least_after;
 use table::Table;
@@ -23,10 +22,7 @@ use table::Table;
 pub fn on_the_way(own: Own, cost: u32, far: bool) -> bool
     ensures { result ≡ true → cost ≡ own.budget }
 {
-    if cost == own.budget {
-        return !far;
-    }
-    false
+    cost == own.budget && !far
 }
 
 // The resource that is held alone (`lone_resource`), where one is held and the active period is not far; else 0.
@@ -34,10 +30,7 @@ pub fn lone_on_the_way(holdings: &[u32], ceilings: &[usize], own: Own, cost: u32
     requires { (length holdings.now ≤ length ceilings.now) × (length holdings.now ≤ most) }
     ensures { 1 ≤ result → Alone holdings.now ceilings.now own.place (result - 1) }
 {
-    if far {
-        return 0;
-    }
-    if cost == own.budget {
+    if far || cost == own.budget {
         return 0;
     }
     lone_resource(holdings, ceilings, own.place)
@@ -49,11 +42,9 @@ pub fn nearly_all(own: Own, cost: u32, first: u32, active: u32) -> bool
     requires { (cost ≤ own.period) × (own.period < 2 ^ 20) × (first < reach) × (active < reach) }
     ensures { result ≡ true → cost ≡ own.budget }
 {
-    if cost == own.budget {
-        let few = wide(first) * wide(own.period) * 4;
-        return few <= wide(active) * wide(own.period - cost);
-    }
-    false
+    cost == own.budget
+        && u64::from(first) * u64::from(own.period) * 4
+            <= u64::from(active) * u64::from(own.period - cost)
 }
 
 // The resource that is held, counted from 1, where it is the only one and shuts no higher subsystem out; else 0.
@@ -62,18 +53,13 @@ fn lone_resource(holdings: &[u32], ceilings: &[usize], s: usize) -> u32
     ensures { 1 ≤ result → Alone holdings.now ceilings.now s (result - 1) }
 {
     let mut lone: u32 = 0;
-    let mut l: usize = 0;
-    while l < holdings.len() {
-        if holdings[l] != 0 {
-            if lone != 0 {
-                return 0;
-            }
-            if ceilings[l] != s {
+    for (l, &held) in holdings.iter().enumerate() {
+        if held != 0 {
+            if lone != 0 || ceilings[l] != s {
                 return 0;
             }
             lone = l as u32 + 1;
         }
-        l += 1;
     }
     lone
 }

@@ -4,7 +4,7 @@ use Prim.Native.Nat.{ℕ, ◌+◌, ◌≤◌, ◌<◌}
 use native.Mathlib.Omega.{arith}
 use mathlib.Core.Path.{◌≡◌}
 use mathlib.Core.List.{List}
-use lib.ListN.{length, take}
+use lib.ListN.{take}
 use Rattle.search.specs.After.{Fit, Frees}
 use Rattle.table.specs.Limits.{most}
 use Rattle.outer.specs.declared.ceilings.Common.{Common}
@@ -18,9 +18,7 @@ use Rattle.job.proofs.LentLaws as lent
 
 pub record Lending (n m : ℕ) (lines : List (List ℕ)) (common : Common) (s : ℕ) : Type 0 where
   pub listed : s < most
-  pub periods_long : n ≤ length common.periods
-  pub costs_long : n ≤ length common.costs
-  pub frees_long : n ≤ length common.frees
+  pub few : n ≤ most
   pub seen : SoundView (view_of (interfaces_in n m lines) s)
   pub periods_lent : take n common.periods ≡ (view_of (interfaces_in n m lines) s).periods
   pub costs_lent : take n common.costs ≡ (view_of (interfaces_in n m lines) s).costs
@@ -35,9 +33,7 @@ lending n m lines common s sound e h =
     let costs_lent = lent.costs_lent n m lines common sound e s in
     record {
       listed = omega (arith, few_of n m lines sound, h);
-      periods_long = lent.periods_long n m lines common sound e;
-      costs_long = lent.costs_long n m lines common sound e;
-      frees_long = lent.frees_long n m lines common sound e;
+      few = few_of n m lines sound;
       seen = seen;
       periods_lent = periods_lent;
       costs_lent = costs_lent;

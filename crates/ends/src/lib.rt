@@ -19,7 +19,6 @@ ghost use Rattle.job.specs.Sound.{Counted};
 
 use job::HORIZON;
 use least::{demand_in, round_up};
-use numbers::wide;
 use outer::interfaces::WIDTH;
 use outer::{Common, interfaces};
 use search::{ends_at, least_after, least_within};
@@ -38,8 +37,7 @@ fn blocking_in(
     requires s_lt_n { s < n }
     ensures { result ≡ blocking (interfaces_in n m lines.now) s }
 {
-    let blockings = common.blockings;
-    blockings[s]
+    common.blockings[s]
 }
 
 // The number of jobs in the active period of subsystem s, 0 where none ends within the horizon. The search goes on from the first
@@ -56,17 +54,14 @@ pub fn jobs_of(
     requires s_lt_n { s < n }
     ensures { result ≡ job_count (view_of (interfaces_in n m lines.now) s) }
 {
-    let periods = common.periods;
-    let costs = common.costs;
-    let frees = common.frees;
     let blocking = blocking_in(lines, n, m, common, s);
     let mut ends = [0u32; Table::MOST];
-    ends_at(&periods[..n], s + 1, 1, &mut ends);
-    let once = demand_in(&periods[..n], &costs[..n], s + 1, 1) as u32;
+    ends_at(&common.periods[..n], s + 1, 1, &mut ends);
+    let once = demand_in(&common.periods[..n], &common.costs[..n], s + 1, 1) as u32;
     let active = least_after(
-        &periods[..n],
-        &costs[..n],
-        &frees[..n],
+        &common.periods[..n],
+        &common.costs[..n],
+        &common.frees[..n],
         s + 1,
         &mut ends,
         1,
@@ -77,7 +72,7 @@ pub fn jobs_of(
     if HORIZON < active {
         return 0;
     }
-    round_up(active, periods[s])
+    round_up(active, common.periods[s])
 }
 
 // What job k waits for besides higher subsystems: B(s) + k × (Q + X) + Q.
@@ -95,9 +90,10 @@ fn ahead_of_job(
     requires counted { Counted (view_of (interfaces_in n m lines.now) s) k }
     ensures { result ≡ ahead (view_of (interfaces_in n m lines.now) s) k }
 {
-    let costs = common.costs;
-    let before = k * costs[s];
-    wide(blocking_in(lines, n, m, common, s)) + wide(before) + wide(interfaces::budget(lines, s))
+    let before = k * common.costs[s];
+    u64::from(blocking_in(lines, n, m, common, s))
+        + u64::from(before)
+        + u64::from(interfaces::budget(lines, s))
 }
 
 // F(k): the end of job k's budget.
@@ -115,15 +111,12 @@ pub fn budget_end(
     requires counted { Counted (view_of (interfaces_in n m lines.now) s) k }
     ensures { result ≡ budget_end (view_of (interfaces_in n m lines.now) s) k }
 {
-    let periods = common.periods;
-    let costs = common.costs;
-    let frees = common.frees;
     let ahead = ahead_of_job(lines, n, m, common, s, k) as u32;
     let mut ends = [0u32; Table::MOST];
     least_within(
-        &periods[..n],
-        &costs[..n],
-        &frees[..n],
+        &common.periods[..n],
+        &common.costs[..n],
+        &common.frees[..n],
         s,
         &mut ends,
         0,
@@ -160,16 +153,12 @@ pub fn job_end(
     requires l_lt_m { (l < m) × (0 < held (view_of (interfaces_in n m lines.now) s) l) }
     ensures { result ≡ job_end (view_of (interfaces_in n m lines.now) s) k l }
 {
-    let periods = common.periods;
-    let costs = common.costs;
-    let frees = common.frees;
-    let ceilings = common.ceilings;
     let end = budget_end(lines, n, m, common, s, k);
     end_after(
-        &periods[..n],
-        &costs[..n],
-        &frees[..n],
-        ceilings[l],
+        &common.periods[..n],
+        &common.costs[..n],
+        &common.frees[..n],
+        common.ceilings[l],
         end,
         interfaces::held(lines, s, l),
     )

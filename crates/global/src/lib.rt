@@ -23,7 +23,6 @@ ghost use Rattle.job.specs.Sound.{SoundView, FirstEnd, Active};
 use done::{lone_on_the_way, nearly_all, on_the_way, row_alone, row_by_jobs};
 use job::{HORIZON, Own};
 use least::{REACH, demand_in, round_up, spare_of, standing};
-use numbers::wide;
 use outer::interfaces::{WIDTH, budget, period};
 use outer::leading::leading;
 use responses::largest_response;
@@ -74,11 +73,8 @@ fn may_be_far(periods: &[u32], costs: &[u32], own: Own, first: u32) -> bool
     if spare == 0 {
         return true;
     }
-    let once = wide(own.blocking) + demand_in(periods, costs, n, 1);
-    if wide(REACH) <= once {
-        return true;
-    }
-    HORIZON < standing(once as u32, spare)
+    let once = u64::from(own.blocking) + demand_in(periods, costs, n, 1);
+    u64::from(REACH) <= once || HORIZON < standing(once as u32, spare)
 }
 
 // Where the search for the active period may stand: what blocks reaches as far as the subsystems leave free of every tick. Only where it

@@ -62,7 +62,8 @@ fn better(best: Best, value: u32, at: usize) -> Best
     }
 }
 
-// The worse of the worst job so far and a later one: the earlier stays where they are equal.
+// The worse of the worst job so far and a later one: the earlier stays where they are equal. `better` is its twin; one generic form would
+// have to be told both values and both records, and would say less than either.
 pub fn worse(worst: Worst, job: Job, k: u32) -> Worst
     ensures { result ≡ cond (ltb worst.response job.response) (record { response = job.response; job = k; resource = job.resource }) worst }
 {
@@ -119,17 +120,21 @@ fn best_response(
     ensures { result ≡ best_of (response_with (seen_by periods.now costs.now holdings.now ceilings.now own) k) (length holdings.now) }
 {
     let mut best = Best { value: 0, at: 0 };
-    let mut l: usize = 0;
-    while l < holdings.len() {
-        let held = holdings[l];
-        if held == 0 {
-            l += 1;
-            continue;
+    for (l, &held) in holdings.iter().enumerate() {
+        if held != 0 {
+            let release = k * own.period;
+            let response = response_with(
+                periods,
+                costs,
+                frees,
+                ceilings[l],
+                ends,
+                end,
+                held,
+                release,
+            );
+            best = better(best, response, l);
         }
-        let release = k * own.period;
-        let response = response_with(periods, costs, frees, ceilings[l], ends, end, held, release);
-        best = better(best, response, l);
-        l += 1;
     }
     best
 }

@@ -15,7 +15,6 @@ ghost use Rattle.responses.specs.Known.{Jobs, Ended};
 use crate::room::{is_plain, may_be_worse, settled_from};
 use job::{Own, Worst, job_response, worse};
 use least::{demand_in, spare_of, standing};
-use numbers::wide;
 use search::least_within;
 use table::Table;
 
@@ -30,18 +29,16 @@ fn spare_for_jobs(periods: &[u32], costs: &[u32], own: Own, n: u32, first: u32) 
     if n < 2 {
         return 0;
     }
-    if n < 16 {
-        if wide(first / 8) < wide(own.blocking) + wide(own.budget) {
-            return 0;
-        }
+    if n < 16 && u64::from(first / 8) < u64::from(own.blocking) + u64::from(own.budget) {
+        return 0;
     }
     let spare = spare_of(periods, costs, s);
     if spare == 0 {
         return 0;
     }
-    let reached = wide(standing(costs[s], spare));
+    let reached = u64::from(standing(costs[s], spare));
     let once = demand_in(periods, costs, s, 1);
-    if reached < wide(costs[s]) + once + once {
+    if reached < u64::from(costs[s]) + once + once {
         return 0;
     }
     spare
@@ -70,10 +67,11 @@ fn next_end(
 {
     let s = own.place;
     let cost = costs[s];
-    if spare == 0 {
-        return least_within(periods, costs, frees, s, ends, end, cost, 0);
-    }
-    let start = standing(own.blocking + (k + 1) * cost + own.budget, spare);
+    let start = if spare == 0 {
+        0
+    } else {
+        standing(own.blocking + (k + 1) * cost + own.budget, spare)
+    };
     least_within(periods, costs, frees, s, ends, end, cost, start)
 }
 
@@ -98,8 +96,7 @@ pub fn largest_response(
     requires frees { Frees periods.now costs.now frees.now (own.place + 1) }
     ensures { result ≡ worst_of (seen_by periods.now costs.now holdings.now ceilings.now own) n }
 {
-    let s = own.place;
-    let cost = costs[s];
+    let cost = costs[own.place];
     let mut worst = Worst {
         response: 0,
         job: 0,
@@ -114,6 +111,7 @@ pub fn largest_response(
     let plain = is_plain(holdings, ceilings, n);
     let spare = spare_for_jobs(periods, costs, own, n, first);
     let mut until = last;
+    // No `for`: `until` may come down in any turn.
     while k < until {
         let then = ends;
         let next = next_end(

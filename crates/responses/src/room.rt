@@ -5,7 +5,6 @@ ghost use Rattle.responses.specs.Known.{EndedBy, Plain};
 
 use job::{Own, Worst};
 use least::round_up;
-use numbers::wide;
 use table::Table;
 
 // Whether no higher subsystem comes between once the budget has ended: every resource that is held has the highest ceiling. For a row of
@@ -14,19 +13,11 @@ pub(crate) fn is_plain(holdings: &[u32], ceilings: &[usize], n: u32) -> bool
     requires { length holdings.now ≤ length ceilings.now }
     ensures { result ≡ true → Plain holdings.now ceilings.now }
 {
-    if n == 1 {
-        return false;
-    }
-    let mut l: usize = 0;
-    while l < holdings.len() {
-        if holdings[l] != 0 {
-            if ceilings[l] != 0 {
-                return false;
-            }
-        }
-        l += 1;
-    }
-    true
+    n != 1
+        && holdings
+            .iter()
+            .zip(ceilings)
+            .all(|(&held, &ceiling)| held == 0 || ceiling == 0)
 }
 
 // Whether none of the first n loads has a period that begins before x, `ends` holding where those end that have begun.
@@ -34,14 +25,7 @@ fn none_begins(ends: &[u32; Table::MOST], n: usize, x: u32) -> bool
     requires { (n ≤ most) × (n ≤ length ends.now) }
     ensures { result ≡ true → (t : ℕ) → t < n → x ≤ get_or ends.now t 0 }
 {
-    let mut t: usize = 0;
-    while t < n {
-        if ends[t] < x {
-            return false;
-        }
-        t += 1;
-    }
-    true
+    ends[..n].iter().all(|&end| x <= end)
 }
 
 // Whether job k, where it ends at `latest`, responds later than the worst so far.
@@ -49,7 +33,7 @@ fn is_worse_at(own: Own, worst: Worst, k: u32, latest: u32) -> bool
     requires { k * own.period < 2 ^ 32 }
     ensures { result ≡ ltb (worst.response + k * own.period) latest }
 {
-    wide(worst.response) + wide(k * own.period) < wide(latest)
+    u64::from(worst.response) + u64::from(k * own.period) < u64::from(latest)
 }
 
 // Whether job k may respond later than the worst so far. It ends by `sure`, X after its budget, where no higher subsystem comes between
@@ -71,13 +55,8 @@ pub(crate) fn may_be_worse(
     if plain {
         return is_worse_at(own, worst, k, sure);
     }
-    if !is_worse_at(own, worst, k, next - own.budget) {
-        return false;
-    }
-    if is_worse_at(own, worst, k, sure) {
-        return true;
-    }
-    !none_begins(ends, own.place, sure)
+    is_worse_at(own, worst, k, next - own.budget)
+        && (is_worse_at(own, worst, k, sure) || !none_begins(ends, own.place, sure))
 }
 
 // The first job, at most `last`, from which on none can respond later than the worst so far: each leaves Q + X for every job behind
@@ -91,6 +70,5 @@ pub(crate) fn settled_from(worst: Worst, room: u32, free: u32, last: u32) -> u32
     if free == 0 {
         return last;
     }
-    let first = round_up(room - worst.response, free);
-    if first < last { first } else { last }
+    round_up(room - worst.response, free).min(last)
 }

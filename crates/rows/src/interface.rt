@@ -24,10 +24,8 @@ fn interface_of(block: &[[u32; LINE]; BLOCK], m: usize, held: &[u64; Table::MOST
     let mut line = [0u32; WIDTH];
     line[0] = period(block);
     line[1] = budget(block);
-    let mut l = 0;
-    while l < m {
+    for l in 0..m {
         line[l + 2] = held[l] as u32;
-        l += 1;
     }
     line
 }
@@ -45,10 +43,7 @@ pub fn interfaces_of(
     requires lines_len { length lines.old ≡ most }
     ensures { interfaces_in n m lines.new ≡ interfaces_from (system_in n m grid.now) }
 {
-    let mut s = 0;
-    while s < n {
-        let line = interface_of(&grid[s], m, &holdings[s]);
-        lines[s] = line;
-        s += 1;
+    for s in 0..n {
+        lines[s] = interface_of(&grid[s], m, &holdings[s]);
     }
 }

@@ -51,31 +51,24 @@ pub fn rows_of(
     interfaces_of(grid, n, m, holdings, &mut lines);
     let common = outer::in_common(&lines, n, m);
     let fits = outer::fitting_of(common, n);
-    let periods = common.periods;
-    let costs = common.costs;
-    let frees = common.frees;
-    let ceilings = common.ceilings;
-    let blockings = common.blockings;
     let mut rows = [no_row(); Table::MOST];
-    let mut s = 0;
-    while s < n {
+    for s in 0..n {
         let block = &grid[s];
-        let end = period(block) - (costs[s] - budget(block));
+        let end = period(block) - (common.costs[s] - budget(block));
         let failing = first_failing_task(block, m, &holdings[s], end);
         rows[s] = global::row_of(
             &lines,
             n,
             m,
-            &periods[..n],
-            &costs[..n],
-            &frees[..n],
-            &ceilings[..m],
-            blockings[s],
+            &common.periods[..n],
+            &common.costs[..n],
+            &common.frees[..n],
+            &common.ceilings[..m],
+            common.blockings[s],
             fits,
             s,
             failing as u32,
         );
-        s += 1;
     }
     rows
 }

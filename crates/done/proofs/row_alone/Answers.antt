@@ -26,7 +26,3 @@ returns-then-done-gt-HORIZON c =
 pub row_by_jobs-requires : goal.row_by_jobs-requires
 row_by_jobs-requires c =
     record { sound_view = c.requires.sound_view; ends_done = ends_done_lone _ c.requires.le_lone.0 c.requires.le_lone.1; first_done = first_is_done _ c.requires.sound_view c.requires.first_end (overrun_computed _ c.requires.sound_view) c.least_after-done.ensures.found c.if-done-gt-HORIZON.false c.least_after-done.ensures.ends_len_unchanged; frees = c.requires.frees }
-
-pub returns : goal.returns
-returns c =
-    c.row_by_jobs.ensures

@@ -1,12 +1,11 @@
 use Prim.Native.Nat.{◌+◌, ◌*◌, ◌≤◌, ◌<◌}
-use native.Mathlib.Nat.{mul-le-mul_left, suc-mul}
+use native.Mathlib.Nat.{suc-mul}
 use native.Mathlib.Numerals.{add-one}
 use native.Mathlib.Omega.{arith}
 use mathlib.Core.Path.{◌≡◌, refl, sym, ap, ◌∙◌}
 use Rattle.table.specs.Limits.{horizon}
 use Rattle.row.specs.Row.{row_for}
 use Rattle.job.specs.Computed.{seen_by}
-use Rattle.job.proofs.ActiveLaws.{period_pos}
 use Rattle.job.proofs.BestLaws.{worst_first, worst_step}
 use Rattle.row.proofs.RowLaws.{budget_below, overrun_computed, row_with_lem, row_without_lem}
 use Rattle.done.proofs.OnTheWayLaws.{reached_first, job_reached, last_job, active_reached, next_after, reached_next, nothing_reached}
@@ -32,31 +31,12 @@ returns-then-end-gt-HORIZON c =
     c.row_without.ensures ∙
     row_without_lem ((seen_by c.args.periods.now c.args.costs.now c.args.holdings.now c.args.ceilings.now c.args.own)) c.args.own.failing (overrun_computed ((seen_by c.args.periods.now c.args.costs.now c.args.holdings.now c.args.ceilings.now c.args.own)) c.requires.sound_view) (nothing_reached ((seen_by c.args.periods.now c.args.costs.now c.args.holdings.now c.args.ceilings.now c.args.own)) c.requires.sound_view c.loop-release.invariant.0 (late) c.least_after-end.ensures.found c.if-end-gt-HORIZON.true)
 
-pub overflow_add-k : goal.overflow_add-k
-overflow_add-k c =
-    let few_jobs : c.loop-release.k ≤ horizon = let one_each : c.loop-release.k * 1 ≤ c.loop-release.k * c.args.own.period = mul-le-mul_left c.loop-release.k (period_pos ((seen_by c.args.periods.now c.args.costs.now c.args.holdings.now c.args.ceilings.now c.args.own)) c.requires.sound_view) in
-    omega (arith, one_each, c.loop-release.invariant.0.released, c.loop-release.invariant.0.within) in
-    record { fits = omega (arith, few_jobs) }
-
 pub overflow_sub-response : goal.overflow_sub-response
 overflow_sub-response c =
     let late : (c.loop-release.k + 1) * c.args.own.period < c.loop-release.end = omega (arith, c.loop-release-test.true, c.loop-release.invariant.1) in
     let next : ((c.loop-release.k + 1) * c.args.own.period < c.least_after-end.result) × (c.least_after-end.result ≤ horizon) = let r = reached_next ((seen_by c.args.periods.now c.args.costs.now c.args.holdings.now c.args.ceilings.now c.args.own)) c.requires.sound_view c.loop-release.invariant.0 (late) c.least_after-end.ensures.found c.if-end-gt-HORIZON.false c.least_after-end.ensures.ends_len_unchanged in
     (r.released, r.within) in
     omega (arith, (next).0, c.loop-release.invariant.1)
-
-pub overflow_add-release : goal.overflow_add-release
-overflow_add-release c =
-    let late : (c.loop-release.k + 1) * c.args.own.period < c.loop-release.end = omega (arith, c.loop-release-test.true, c.loop-release.invariant.1) in
-    let next : ((c.loop-release.k + 1) * c.args.own.period < c.least_after-end.result) × (c.least_after-end.result ≤ horizon) = let r = reached_next ((seen_by c.args.periods.now c.args.costs.now c.args.holdings.now c.args.ceilings.now c.args.own)) c.requires.sound_view c.loop-release.invariant.0 (late) c.least_after-end.ensures.found c.if-end-gt-HORIZON.false c.least_after-end.ensures.ends_len_unchanged in
-    (r.released, r.within) in
-    record { fits = omega (arith, (next).0, (next).1, c.loop-release.invariant.1, c.requires.sound_view.period_small) }
-
-pub loop-release-smaller : goal.loop-release-smaller
-loop-release-smaller c =
-    let few_jobs : c.loop-release.k ≤ horizon = let one_each : c.loop-release.k * 1 ≤ c.loop-release.k * c.args.own.period = mul-le-mul_left c.loop-release.k (period_pos ((seen_by c.args.periods.now c.args.costs.now c.args.holdings.now c.args.ceilings.now c.args.own)) c.requires.sound_view) in
-    omega (arith, one_each, c.loop-release.invariant.0.released, c.loop-release.invariant.0.within) in
-    omega (arith, few_jobs)
 
 pub loop-release-preserved : goal.loop-release-preserved
 loop-release-preserved c =
@@ -67,12 +47,6 @@ loop-release-preserved c =
       omega (arith, c.loop-release.invariant.1, after),
       worst_step ((seen_by c.args.periods.now c.args.costs.now c.args.holdings.now c.args.ceilings.now c.args.own)) (c.loop-release.k + 1) c.loop-release.invariant.2 (job_reached ((seen_by c.args.periods.now c.args.costs.now c.args.holdings.now c.args.ceilings.now c.args.own)) c.requires.ends_done r (omega (arith, c.loop-release.invariant.1))) c.worse-worst.ensures,
     )
-
-pub overflow_add-k-2 : goal.overflow_add-k-2
-overflow_add-k-2 c =
-    let few_jobs : c.loop-release.k ≤ horizon = let one_each : c.loop-release.k * 1 ≤ c.loop-release.k * c.args.own.period = mul-le-mul_left c.loop-release.k (period_pos ((seen_by c.args.periods.now c.args.costs.now c.args.holdings.now c.args.ceilings.now c.args.own)) c.requires.sound_view) in
-    omega (arith, one_each, c.loop-release.invariant.0.released, c.loop-release.invariant.0.within) in
-    record { fits = omega (arith, few_jobs) }
 
 pub row_with-requires : goal.row_with-requires
 row_with-requires c =

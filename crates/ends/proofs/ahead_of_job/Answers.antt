@@ -8,13 +8,13 @@ use Rattle.job.proofs.ActiveLaws.{active_within}
 use Rattle.job.proofs.LentLaws.{lent_sound, ahead_lent, jobs_before}
 use Rattle.ends.proofs.ahead_of_job.Goals as goal
 
-pub offset_bounds-costs-s : goal.offset_bounds-costs-s
-offset_bounds-costs-s c =
+pub offset_bounds-common-s : goal.offset_bounds-common-s
+offset_bounds-common-s c =
     let listed : c.args.s < most = omega (arith, few_of c.args.n c.args.m c.args.lines.now c.requires.sound, c.requires.s_lt_n) in
     omega (arith, listed)
 
-pub bounds-costs-s : goal.bounds-costs-s
-bounds-costs-s c =
+pub bounds-common-s : goal.bounds-common-s
+bounds-common-s c =
     let listed : c.args.s < most = omega (arith, few_of c.args.n c.args.m c.args.lines.now c.requires.sound, c.requires.s_lt_n) in
     listed
 
@@ -29,5 +29,5 @@ budget-requires c =
 
 pub returns : goal.returns
 returns c =
-    ap₂ ◌+◌ (ap₂ ◌+◌ c.wide.ensures.0 c.wide-2.ensures.0) c.wide-3.ensures.0 ∙
+    ap₂ ◌+◌ (ap₂ ◌+◌ c.from.ensures c.from-2.ensures) c.from-3.ensures ∙
     ahead_lent c.args.n c.args.m c.args.lines.now c.args.common c.requires.sound c.requires.common_value c.args.s c.requires.s_lt_n c.args.k c.blocking_in.ensures c.budget.ensures

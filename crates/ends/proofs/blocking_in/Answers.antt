@@ -6,13 +6,13 @@ use Rattle.outer.proofs.Slots.{few_of}
 use Rattle.job.proofs.LentLaws as lent
 use Rattle.ends.proofs.blocking_in.Goals as goal
 
-pub offset_bounds-blockings-s : goal.offset_bounds-blockings-s
-offset_bounds-blockings-s c =
+pub offset_bounds-common-s : goal.offset_bounds-common-s
+offset_bounds-common-s c =
     let listed : c.args.s < most = omega (arith, few_of c.args.n c.args.m c.args.lines.now c.requires.sound, c.requires.s_lt_n) in
     omega (arith, listed)
 
-pub bounds-blockings-s : goal.bounds-blockings-s
-bounds-blockings-s c =
+pub bounds-common-s : goal.bounds-common-s
+bounds-common-s c =
     let listed : c.args.s < most = omega (arith, few_of c.args.n c.args.m c.args.lines.now c.requires.sound, c.requires.s_lt_n) in
     listed
 

@@ -7,7 +7,6 @@ use lib.ListN.{get_or, take}
 use Rattle.search.specs.After.{Frees}
 use Rattle.table.specs.Limits.{most}
 use Rattle.outer.proofs.Slots.{few_of, few_resources_of}
-use Rattle.outer.proofs.SharedLaws.{used_length}
 use Rattle.job.specs.View.{view_of}
 use Rattle.job.proofs.LentLaws as lent
 use Rattle.job.proofs.WaitLaws.{frees_fewer}
@@ -15,43 +14,18 @@ use Rattle.job.proofs.EndsLaws.{after_lent, job_at}
 use Rattle.ends.proofs.Lending.{lending}
 use Rattle.ends.proofs.job_end.Goals as goal
 
-pub slice_bounds-periods-end : goal.slice_bounds-periods-end
-slice_bounds-periods-end c =
+pub shared_ref_as_front-end_after : goal.shared_ref_as_front-end_after
+shared_ref_as_front-end_after c =
     let l = lending _ _ _ _ _ c.requires.sound c.requires.common_value c.requires.s_lt_n in
-    l.periods_long
+    l.few
 
-pub slice_bounds-end_after-end : goal.slice_bounds-end_after-end
-slice_bounds-end_after-end c =
-    let l = lending _ _ _ _ _ c.requires.sound c.requires.common_value c.requires.s_lt_n in
-    used_length _ _ l.periods_long
-
-pub slice_bounds-costs-end : goal.slice_bounds-costs-end
-slice_bounds-costs-end c =
-    let l = lending _ _ _ _ _ c.requires.sound c.requires.common_value c.requires.s_lt_n in
-    l.costs_long
-
-pub slice_bounds-end_after-end-2 : goal.slice_bounds-end_after-end-2
-slice_bounds-end_after-end-2 c =
-    let l = lending _ _ _ _ _ c.requires.sound c.requires.common_value c.requires.s_lt_n in
-    used_length _ _ l.costs_long
-
-pub slice_bounds-frees-end : goal.slice_bounds-frees-end
-slice_bounds-frees-end c =
-    let l = lending _ _ _ _ _ c.requires.sound c.requires.common_value c.requires.s_lt_n in
-    l.frees_long
-
-pub slice_bounds-end_after-end-3 : goal.slice_bounds-end_after-end-3
-slice_bounds-end_after-end-3 c =
-    let l = lending _ _ _ _ _ c.requires.sound c.requires.common_value c.requires.s_lt_n in
-    used_length _ _ l.frees_long
-
-pub offset_bounds-ceilings-l : goal.offset_bounds-ceilings-l
-offset_bounds-ceilings-l c =
+pub offset_bounds-common-l : goal.offset_bounds-common-l
+offset_bounds-common-l c =
     let resource_listed : c.args.l < most = omega (arith, few_resources_of c.args.n c.args.m c.args.lines.now c.requires.sound, c.requires.l_lt_m.0) in
     omega (arith, resource_listed)
 
-pub bounds-ceilings-l : goal.bounds-ceilings-l
-bounds-ceilings-l c =
+pub bounds-common-l : goal.bounds-common-l
+bounds-common-l c =
     let resource_listed : c.args.l < most = omega (arith, few_resources_of c.args.n c.args.m c.args.lines.now c.requires.sound, c.requires.l_lt_m.0) in
     resource_listed
 

@@ -2,7 +2,6 @@
 use mathlib.Core.Path.{ap, ◌∙◌}
 use Rattle.least.specs.Up.{up}
 use Rattle.search.proofs.ClimbLaws.{fit_periods, starts_nowhere}
-use Rattle.outer.proofs.SharedLaws.{used_length}
 use Rattle.job.specs.View.{view_of}
 use Rattle.job.proofs.ActiveLaws.{active_from, period_pos}
 use Rattle.job.proofs.LentLaws as lent
@@ -11,51 +10,16 @@ use native.Mathlib.Omega.{arith}
 use Rattle.ends.proofs.Lending.{lending}
 use Rattle.ends.proofs.jobs_of.Goals as goal
 
-pub slice_bounds-periods-end : goal.slice_bounds-periods-end
-slice_bounds-periods-end c =
+pub shared_ref_as_front-ends_at : goal.shared_ref_as_front-ends_at
+shared_ref_as_front-ends_at c =
     let l = lending _ _ _ _ _ c.requires.sound c.requires.common_value c.requires.s_lt_n in
-    l.periods_long
-
-pub slice_bounds-ends_at-end : goal.slice_bounds-ends_at-end
-slice_bounds-ends_at-end c =
-    let l = lending _ _ _ _ _ c.requires.sound c.requires.common_value c.requires.s_lt_n in
-    used_length _ _ l.periods_long
-
-pub overflow_add-s : goal.overflow_add-s
-overflow_add-s c =
-    let l = lending _ _ _ _ _ c.requires.sound c.requires.common_value c.requires.s_lt_n in
-    omega (arith, l.listed)
+    l.few
 
 pub ends_at-requires : goal.ends_at-requires
 unfolding view_of
 ends_at-requires c =
     let l = lending _ _ _ _ _ c.requires.sound c.requires.common_value c.requires.s_lt_n in
     record { periods = (fit_periods l.fits, omega (arith, l.listed), omega (arith, l.listed)); le_y = (omega arith, omega arith) }
-
-pub slice_bounds-periods-end-2 : goal.slice_bounds-periods-end-2
-slice_bounds-periods-end-2 c =
-    let l = lending _ _ _ _ _ c.requires.sound c.requires.common_value c.requires.s_lt_n in
-    l.periods_long
-
-pub slice_bounds-demand_in-end : goal.slice_bounds-demand_in-end
-slice_bounds-demand_in-end c =
-    let l = lending _ _ _ _ _ c.requires.sound c.requires.common_value c.requires.s_lt_n in
-    used_length _ _ l.periods_long
-
-pub slice_bounds-costs-end : goal.slice_bounds-costs-end
-slice_bounds-costs-end c =
-    let l = lending _ _ _ _ _ c.requires.sound c.requires.common_value c.requires.s_lt_n in
-    l.costs_long
-
-pub slice_bounds-demand_in-end-2 : goal.slice_bounds-demand_in-end-2
-slice_bounds-demand_in-end-2 c =
-    let l = lending _ _ _ _ _ c.requires.sound c.requires.common_value c.requires.s_lt_n in
-    used_length _ _ l.costs_long
-
-pub overflow_add-s-2 : goal.overflow_add-s-2
-overflow_add-s-2 c =
-    let l = lending _ _ _ _ _ c.requires.sound c.requires.common_value c.requires.s_lt_n in
-    omega (arith, l.listed)
 
 pub demand_in-once-requires : goal.demand_in-once-requires
 unfolding view_of
@@ -69,41 +33,6 @@ overflow_cast-once c =
     let l = lending _ _ _ _ _ c.requires.sound c.requires.common_value c.requires.s_lt_n in
     let fits_once = once_fits _ l.seen l.periods_lent l.costs_lent c.blocking_in-blocking.ensures c.demand_in-once.ensures.0 in
     omega (arith, fits_once.1)
-
-pub slice_bounds-periods-end-3 : goal.slice_bounds-periods-end-3
-slice_bounds-periods-end-3 c =
-    let l = lending _ _ _ _ _ c.requires.sound c.requires.common_value c.requires.s_lt_n in
-    l.periods_long
-
-pub slice_bounds-least_after-end : goal.slice_bounds-least_after-end
-slice_bounds-least_after-end c =
-    let l = lending _ _ _ _ _ c.requires.sound c.requires.common_value c.requires.s_lt_n in
-    used_length _ _ l.periods_long
-
-pub slice_bounds-costs-end-2 : goal.slice_bounds-costs-end-2
-slice_bounds-costs-end-2 c =
-    let l = lending _ _ _ _ _ c.requires.sound c.requires.common_value c.requires.s_lt_n in
-    l.costs_long
-
-pub slice_bounds-least_after-end-2 : goal.slice_bounds-least_after-end-2
-slice_bounds-least_after-end-2 c =
-    let l = lending _ _ _ _ _ c.requires.sound c.requires.common_value c.requires.s_lt_n in
-    used_length _ _ l.costs_long
-
-pub slice_bounds-frees-end : goal.slice_bounds-frees-end
-slice_bounds-frees-end c =
-    let l = lending _ _ _ _ _ c.requires.sound c.requires.common_value c.requires.s_lt_n in
-    l.frees_long
-
-pub slice_bounds-least_after-end-3 : goal.slice_bounds-least_after-end-3
-slice_bounds-least_after-end-3 c =
-    let l = lending _ _ _ _ _ c.requires.sound c.requires.common_value c.requires.s_lt_n in
-    used_length _ _ l.frees_long
-
-pub overflow_add-s-3 : goal.overflow_add-s-3
-overflow_add-s-3 c =
-    let l = lending _ _ _ _ _ c.requires.sound c.requires.common_value c.requires.s_lt_n in
-    omega (arith, l.listed)
 
 pub overflow_add-blocking : goal.overflow_add-blocking
 unfolding view_of
@@ -131,16 +60,6 @@ returns-then-active-gt-HORIZON c =
     let l = lending _ _ _ _ _ c.requires.sound c.requires.common_value c.requires.s_lt_n in
     let found = active_at _ l.seen l.periods_lent l.costs_lent c.blocking_in-blocking.ensures c.demand_in-once.ensures.0 c.least_after-active.ensures.found in
     jobs_without _ (found.beyond c.if-active-gt-HORIZON.true)
-
-pub offset_bounds-periods-s : goal.offset_bounds-periods-s
-offset_bounds-periods-s c =
-    let l = lending _ _ _ _ _ c.requires.sound c.requires.common_value c.requires.s_lt_n in
-    omega (arith, l.listed)
-
-pub bounds-periods-s : goal.bounds-periods-s
-bounds-periods-s c =
-    let l = lending _ _ _ _ _ c.requires.sound c.requires.common_value c.requires.s_lt_n in
-    l.listed
 
 pub round_up-requires : goal.round_up-requires
 unfolding view_of

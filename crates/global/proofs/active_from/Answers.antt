@@ -11,18 +11,10 @@ use Rattle.job.proofs.WaitLaws.{own_holds, own_small, blocking_left, active_afte
 use native.Mathlib.Omega.{arith}
 use Rattle.global.proofs.active_from.Goals as goal
 
-pub round_up-begun-requires : goal.round_up-begun-requires
-round_up-begun-requires c =
-    (c.requires.first_end.is_least.from, period_pos _ c.requires.sound_view)
-
 pub overflow_mul-reached : goal.overflow_mul-reached
 overflow_mul-reached c =
     let end_is : c.round_up-begun.result * c.args.own.period ≡ up c.args.first (seen_by c.args.periods.now c.args.costs.now c.args.holdings.now c.args.ceilings.now c.args.own).period * (seen_by c.args.periods.now c.args.costs.now c.args.holdings.now c.args.ceilings.now c.args.own).period = ap (λ (q : ℕ). q * c.args.own.period) c.round_up-begun.ensures in
     record { fits = omega (arith, end_is, up_is_tight c.args.first c.args.own.period (period_pos _ c.requires.sound_view), c.requires.sound_view.period_small, c.requires.first_end.within) }
-
-pub bounds-reached-s : goal.bounds-reached-s
-bounds-reached-s c =
-    c.requires.sound_view.few
 
 pub overflow_mul-more : goal.overflow_mul-more
 overflow_mul-more c =
@@ -33,10 +25,6 @@ pub overflow_sub-more : goal.overflow_sub-more
 overflow_sub-more c =
     let asked_is : c.round_up-begun.result * get_or c.args.costs.now c.args.own.place 0 ≡ up c.args.first (seen_by c.args.periods.now c.args.costs.now c.args.holdings.now c.args.ceilings.now c.args.own).period * cost (seen_by c.args.periods.now c.args.costs.now c.args.holdings.now c.args.ceilings.now c.args.own) = ap₂ ◌*◌ c.round_up-begun.ensures c.requires.sound_view.own_cost in
     omega (arith, asked_is, own_holds _ c.requires.sound_view c.requires.first_end)
-
-pub active_start-start-requires : goal.active_start-start-requires
-active_start-start-requires c =
-    (c.requires.sound_view.fit.loads, c.requires.sound_view.few, omega (arith, c.requires.sound_view.blocking_small))
 
 pub least_after-requires : goal.least_after-requires
 least_after-requires c =

@@ -33,36 +33,16 @@ pub returns-then-first-gt-HORIZON : goal.returns-then-first-gt-HORIZON
 returns-then-first-gt-HORIZON c =
     c.row_without-then-first-gt-HORIZON.ensures ∙ row_without_lem _ c.args.own.failing (overrun_computed _ c.requires.sound_view) (first_beyond _ c.requires.sound_view c.least_after-first.ensures.found (omega (arith, c.if-first-gt-HORIZON.true)))
 
-pub may_be_far-far-requires : goal.may_be_far-far-requires
-may_be_far-far-requires c =
-    (c.requires.sound_view.fit.loads, c.requires.sound_view.few)
-
-pub lone_on_the_way-res-requires : goal.lone_on_the_way-res-requires
-lone_on_the_way-res-requires c =
-    (omega (arith, c.requires.sound_view.same_resources), c.requires.sound_view.few_resources)
-
 pub row_alone-requires : goal.row_alone-requires
 row_alone-requires c =
     let some : 1 ≤ c.lone_on_the_way-res.result = omega (arith, c.if-res-ne0.true) in
     record { sound_view = c.requires.sound_view; le_lone = (some, c.lone_on_the_way-res.ensures some); first_end = first_end _ c.requires.sound_view c.least_after-first.ensures.found (omega (arith, c.least_after-first.ensures.ends_len_unchanged)) c.if-first-gt-HORIZON.false; frees = c.requires.frees }
-
-pub returns-then-res-ne0 : goal.returns-then-res-ne0
-returns-then-res-ne0 c =
-    c.row_alone.ensures
 
 pub row_by_jobs-requires : goal.row_by_jobs-requires
 row_by_jobs-requires c =
     let nothing = no_overrun _ c.requires.sound_view (omega (arith, c.on_the_way.ensures c.if-on_the_way.true)) in
     record { sound_view = c.requires.sound_view; ends_done = ends_done_without _ nothing; first_done = first_done_without _ nothing (first_end _ c.requires.sound_view c.least_after-first.ensures.found (omega (arith, c.least_after-first.ensures.ends_len_unchanged)) c.if-first-gt-HORIZON.false); frees = c.requires.frees }
 
-pub returns-then-on_the_way : goal.returns-then-on_the_way
-returns-then-on_the_way c =
-    c.row_by_jobs.ensures
-
 pub row_searched-requires : goal.row_searched-requires
 row_searched-requires c =
     record { sound_view = c.requires.sound_view; first_end = first_end _ c.requires.sound_view c.least_after-first.ensures.found (omega (arith, c.least_after-first.ensures.ends_len_unchanged)) c.if-first-gt-HORIZON.false; frees = c.requires.frees }
-
-pub returns : goal.returns
-returns c =
-    c.row_searched.ensures

@@ -1,30 +1,18 @@
 use native.Mathlib.Nat.{pos_of_ne-zero}
-use mathlib.Core.Path.{◌≡◌, ap, ◌∙◌}
-use lib.ListN.{length}
-use Rattle.lists.proofs.Turn.{turn_within, turn_less}
 use Rattle.job.specs.View.{held, ceiling}
 use Rattle.job.proofs.ActiveLaws.{active_within}
 use Rattle.job.specs.Response.{response_with}
-use Rattle.job.specs.Computed.{best_of}
 use Rattle.job.proofs.BestLaws.{best_none, best_step, best_stays}
 use Rattle.job.proofs.ResponseLaws.{after_end, responds, uncounted_response}
 use Rattle.job.proofs.BudgetEndLaws.{released_before_end, budget_end_within}
 use Rattle.job.proofs.WaitLaws.{frees_fewer}
 use native.Mathlib.Omega.{arith}
+use Rattle.job.proofs.best_response.Goals.{then-held-ne0, else-held-ne0}
 use Rattle.job.proofs.best_response.Goals as goal
 
 pub loop-l-init : goal.loop-l-init
 loop-l-init c =
-    (omega arith, best_none _)
-
-pub loop-l-smaller-then-held-eq0 : goal.loop-l-smaller-then-held-eq0
-loop-l-smaller-then-held-eq0 c =
-    turn_less _ _ c.loop-l-test.true
-
-pub loop-l-preserved-then-held-eq0 : goal.loop-l-preserved-then-held-eq0
-unfolding ceiling held
-loop-l-preserved-then-held-eq0 c =
-    (turn_within _ _ c.loop-l-test.true, best_stays (response_with _ _) c.loop-l.l c.loop-l.invariant.1 (uncounted_response _ _ c.loop-l.l (omega (arith, c.if-held-eq0.true))))
+    best_none _
 
 pub overflow_mul-release : goal.overflow_mul-release
 overflow_mul-release c =
@@ -33,21 +21,15 @@ overflow_mul-release c =
 pub response_with-response-requires : goal.response_with-response-requires
 unfolding ceiling held
 response_with-response-requires c =
-    let counts = pos_of_ne-zero c.if-held-eq0.false in
+    let counts = pos_of_ne-zero c.if-held-ne0.true in
     let reaches = c.requires.sound_view.ceiling_reaches c.loop-l.l c.loop-l-test.true counts in
     record { ends_at = (λ t u. c.requires.ends_at.0 t (omega (arith, u, reaches)), c.requires.ends_at.1); budget_over = after_end _ c.requires.sound_view c.requires.counted c.loop-l.l c.loop-l-test.true c.requires.end_value counts; release_le_end = omega (arith, released_before_end _ c.requires.sound_view c.requires.counted, c.requires.end_value); frees = frees_fewer _ c.requires.frees (omega (arith, reaches)) }
-
-pub loop-l-smaller : goal.loop-l-smaller
-loop-l-smaller c =
-    turn_less _ _ c.loop-l-test.true
 
 pub loop-l-preserved : goal.loop-l-preserved
 unfolding ceiling held
 loop-l-preserved c =
-    let here = responds _ c.requires.sound_view c.requires.counted c.loop-l.l c.loop-l-test.true c.requires.end_value (pos_of_ne-zero c.if-held-eq0.false) c.response_with-response.ensures in
-    (turn_within _ _ c.loop-l-test.true, best_step (response_with _ c.args.k) c.loop-l.l c.loop-l.invariant.1 here c.better-best.ensures)
-
-pub returns : goal.returns
-returns c =
-    let e : c.loop-l.l ≡ length c.args.holdings.now = omega arith in
-    c.loop-l.invariant.1 ∙ ap (best_of (response_with _ c.args.k)) e
+    (elim c.if-held-ne0.branch [
+      | then-held-ne0 w ↦ let here = responds _ c.requires.sound_view c.requires.counted c.loop-l.l c.loop-l-test.true c.requires.end_value (pos_of_ne-zero w.if-held-ne0.true) w.response_with-response.ensures in
+          rw w.best-is (best_step (response_with _ c.args.k) c.loop-l.l c.loop-l.invariant here w.better-best.ensures)
+      | else-held-ne0 w ↦ rw w.best-is (best_stays (response_with _ _) c.loop-l.l c.loop-l.invariant (uncounted_response _ _ c.loop-l.l (omega (arith, w.if-held-ne0.false))))
+    ])

@@ -1,17 +1,12 @@
 use Prim.Native.Nat.{◌+◌}
-use Rattle.least.proofs.Demand.{loads_fewer}
 use Rattle.job.specs.Computed.{seen_by}
 use Rattle.job.proofs.ActiveLaws.{active_within, budget_at_most}
-use Rattle.responses.proofs.JobsLaws.{job_counted, some_jobs, release_fits, end_small, job_small, budget_by_its_end}
+use Rattle.responses.proofs.JobsLaws.{job_counted, some_jobs, release_fits, end_small, budget_by_its_end}
 use Rattle.job.proofs.WaitLaws.{first_is}
 use Rattle.responses.proofs.SkipLaws.{worst_to_none, worst_to_judged, worst_of_all, ended_by, passed_over, response_above_zero, room_there, settled_from}
 use native.Mathlib.Omega.{arith}
 use Rattle.responses.proofs.largest_response.Goals.{else-may_be_worse, then-may_be_worse}
 use Rattle.responses.proofs.largest_response.Goals as goal
-
-pub overflow_sub-free : goal.overflow_sub-free
-overflow_sub-free c =
-    omega (arith, c.requires.sound_view.fits, c.requires.sound_view.own_cost)
 
 pub overflow_sub-last : goal.overflow_sub-last
 overflow_sub-last c =
@@ -25,21 +20,9 @@ pub overflow_sub-room : goal.overflow_sub-room
 overflow_sub-room c =
     room_there _ c.requires.sound_view c.requires.jobs c.requires.sound_view.own_cost
 
-pub is_plain-plain-requires : goal.is_plain-plain-requires
-is_plain-plain-requires c =
-    omega (arith, c.requires.sound_view.same_resources)
-
-pub spare_for_jobs-spare-requires : goal.spare_for_jobs-spare-requires
-spare_for_jobs-spare-requires c =
-    (loads_fewer _ c.requires.sound_view.fit.loads (omega arith), omega (arith, c.requires.sound_view.fit.loads.with_cost), omega (arith, c.requires.sound_view.fit.loads.cost_small c.args.own.place (omega arith)))
-
 pub loop-k-init : goal.loop-k-init
 loop-k-init c =
     (some_jobs _ c.requires.sound_view c.requires.jobs, omega (arith, some_jobs _ c.requires.sound_view c.requires.jobs), λ u. absurd (omega (arith, u)), worst_to_none _, record { is_end = first_is _ c.requires.sound_view c.requires.first_end; with_end = c.requires.first_end.with_end; ends_at = c.requires.first_end.ends_at })
-
-pub next_end-next-requires : goal.next_end-next-requires
-next_end-next-requires c =
-    record { sound_view = c.requires.sound_view; counted = job_counted _ c.requires.jobs (c.loop-k.k + 1) (omega (arith, c.loop-k-test.true, c.loop-k.invariant.1)); frees = c.requires.frees; spare_value = c.spare_for_jobs-spare.ensures; ended = c.loop-k.invariant.4 }
 
 pub overflow_sub-sure : goal.overflow_sub-sure
 overflow_sub-sure c =
@@ -56,14 +39,6 @@ may_be_worse-requires c =
     let next = job_counted _ c.requires.jobs (c.loop-k.k + 1) (omega (arith, c.loop-k-test.true, c.loop-k.invariant.1)) in
     record { period_bound = (release_fits _ c.requires.sound_view here, budget_by_its_end _ c.requires.sound_view next c.next_end-next.ensures.is_end); place_le_most = (omega (arith, c.requires.sound_view.few), omega (arith, c.requires.sound_view.few, c.loop-k.invariant.4.with_end)) }
 
-pub job_response-job-requires : goal.job_response-job-requires
-job_response-job-requires c =
-    record { sound_view = c.requires.sound_view; counted = job_counted _ c.requires.jobs c.loop-k.k (omega (arith, c.loop-k.invariant.0)); end_value = c.loop-k.invariant.4.is_end; ends_at = (c.loop-k.invariant.4.ends_at, c.loop-k.invariant.4.with_end); frees = c.requires.frees }
-
-pub overflow_add-k : goal.overflow_add-k
-overflow_add-k c =
-    record { fits = omega (arith, job_small _ c.requires.sound_view (job_counted _ c.requires.jobs c.loop-k.k (omega (arith, c.loop-k.invariant.0)))) }
-
 pub loop-k-preserved : goal.loop-k-preserved
 loop-k-preserved c =
     let here = job_counted _ c.requires.jobs c.loop-k.k (omega (arith, c.loop-k.invariant.0)) in
@@ -79,10 +54,6 @@ loop-k-preserved c =
 pub returns-then-until-last : goal.returns-then-until-last
 returns-then-until-last c =
     settled_from _ c.requires.sound_view c.requires.jobs c.requires.sound_view.own_cost c.loop-k.until c.loop-k.k c.loop-k.worst (c.loop-k.invariant.2 (omega (arith, c.if-until-last.true))) c.loop-k-test.false (omega (arith, c.loop-k.invariant.0)) c.loop-k.invariant.3
-
-pub job_response-job-requires-2 : goal.job_response-job-requires-2
-job_response-job-requires-2 c =
-    record { sound_view = c.requires.sound_view; counted = job_counted _ c.requires.jobs c.loop-k.k (omega (arith, c.loop-k.invariant.0)); end_value = c.loop-k.invariant.4.is_end; ends_at = (c.loop-k.invariant.4.ends_at, c.loop-k.invariant.4.with_end); frees = c.requires.frees }
 
 pub returns : goal.returns
 returns c =

@@ -1,5 +1,5 @@
 -- `rows::rows_of` meets its contract. Assumes nothing.
-use Prim.Native.Nat.{◌-◌, ◌≤◌}
+use Prim.Native.Nat.{◌≤◌}
 use mathlib.Core.Path.{◌≡◌}
 use Rattle.lists.specs.Range.{padded}
 use Rattle.table.specs.Limits.{most}
@@ -8,7 +8,4 @@ use Rattle.rows.specs.Rows.{row_at, no_row}
 use Rattle.rows.proofs.rows_of.Given as goal
 
 abbrev pub invariant-loop-s : goal.invariant-loop-s
-invariant-loop-s l = (l.n ≤ most) × (l.s ≤ l.n) × (l.rows ≡ padded (row_at (system_in l.n l.m l.grid)) no_row most l.s)
-
-abbrev pub decreases-loop-s : goal.decreases-loop-s
-decreases-loop-s l = l.n - l.s
+invariant-loop-s l = (l.n ≤ most) × (l.rows ≡ padded (row_at (system_in l.n l.m l.grid)) no_row most l.s)

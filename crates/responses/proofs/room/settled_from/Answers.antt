@@ -2,10 +2,14 @@
 use native.Mathlib.Omega.{arith}
 use Rattle.least.proofs.Up.{up_holds}
 use Prim.Native.Nat.{ℕ, ◌-◌, ◌*◌}
-use mathlib.Core.Path.{ap}
+use mathlib.Core.Path.{◌≡◌, ap, ◌∙◌}
 use Rattle.responses.proofs.room.settled_from.Goals as goal
 
-pub returns-then-first-last : goal.returns-then-first-last
-returns-then-first-last c =
-    let enough = up_holds (c.args.room - c.args.worst.response) c.args.free (omega (arith, c.if-free-eq0.false)) in
-    (omega (arith, c.if-first-last.true), λ _. omega (arith, enough, ap (λ (k : ℕ). k * c.args.free) c.round_up-first.ensures, c.if-room-worst.false))
+pub returns : goal.returns
+returns c =
+    let enough = up_holds (c.args.room - c.args.worst.response) c.args.free (omega (arith, c.if-free-eq0.false)) in (
+      omega (arith, c.min.ensures),
+      λ u.
+          let first : c.min.result ≡ c.round_up.result = omega (arith, c.min.ensures, u) in
+          omega (arith, enough, ap (λ (k : ℕ). k * c.args.free) (first ∙ c.round_up.ensures), c.if-room-worst.false),
+    )

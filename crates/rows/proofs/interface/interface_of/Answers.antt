@@ -1,4 +1,3 @@
-use borrow.Author.Rules.{rules}
 use native.Mathlib.Omega.{arith}
 use Rattle.table.specs.Grid.{subsystem_in}
 use Rattle.rows.proofs.InterfaceLaws.{holding_small, held_here, line_begins, line_more, line_shows}
@@ -6,7 +5,7 @@ use Rattle.rows.proofs.interface.interface_of.Goals as goal
 
 pub loop-l-init : goal.loop-l-init
 loop-l-init c =
-    (search rules, c.requires.sound_slot.resources_most, line_begins _ _ _ _ c.period.ensures c.budget.ensures)
+    line_begins _ _ _ _ c.period.ensures c.budget.ensures
 
 pub overflow_cast-line : goal.overflow_cast-line
 overflow_cast-line c =
@@ -14,8 +13,8 @@ overflow_cast-line c =
 
 pub loop-l-preserved : goal.loop-l-preserved
 loop-l-preserved c =
-    (search rules, c.loop-l.invariant.1, line_more c.args.m c.args.block.now c.loop-l.line c.loop-l.l _ (omega (arith, c.loop-l-test.true, c.loop-l.invariant.1)) c.loop-l.invariant.2 (held_here (subsystem_in c.args.m c.args.block.now) c.args.m c.loop-l.l c.args.held.now c.requires.held_value c.loop-l-test.true))
+    line_more c.args.m c.args.block.now c.loop-l.line c.loop-l.l _ (omega (arith, c.loop-l-test.true, c.requires.sound_slot.resources_most)) c.loop-l.invariant (held_here (subsystem_in c.args.m c.args.block.now) c.args.m c.loop-l.l c.args.held.now c.requires.held_value c.loop-l-test.true)
 
 pub returns : goal.returns
 returns c =
-    line_shows _ _ _ c.loop-l.l (omega (arith, c.loop-l-test.false, c.loop-l.invariant.0)) c.loop-l.invariant.2
+    line_shows _ _ _ c.loop-l.l (omega arith) c.loop-l.invariant
