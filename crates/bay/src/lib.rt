@@ -57,12 +57,10 @@ pub fn bay_rewrite(file: &[u8], buf: &mut [u8]) -> usize
     ensures buf_after { buf.new ≡ rewrite_after file.now buf.old }
 {
     let reading = reader::read_table(file);
-    let answer = reading.answer;
-    let ReadAnswer::Whole = answer else {
+    let ReadAnswer::Whole = reading.answer else {
         return 0;
     };
-    let t = reading.table;
-    put_by(writer::write_table(t, buf))
+    put_by(writer::write_table(reading.table, buf))
 }
 
 // How many bytes of text were printed.

@@ -9,7 +9,6 @@ ghost use Rattle.std.specs.Prelude.{◌≡◌, ◌≤◌};
 ghost use Rattle.table.specs.Limits.{most};
 
 use asked::{JobEnd, job_end};
-use numbers::wide;
 use report::Report;
 use row::Row;
 use std::io;
@@ -43,12 +42,12 @@ fn end(t: Table, s: u8, k: u32, l: u8) -> u64 {
     let JobEnd::At(x) = job_end(t, s, k, l) else {
         return 0;
     };
-    wide(x)
+    u64::from(x)
 }
 
 // Its response: the end, from the release at k × P on.
 fn response(t: Table, s: u8, k: u32, l: u8, period: u32) -> u64 {
-    numbers::monus(end(t, s, k, l), wide(k) * wide(period))
+    end(t, s, k, l).saturating_sub(u64::from(k) * u64::from(period))
 }
 
 fn ends_of_job_0(out: &impl Print, t: Table) -> io::Result<()> {
@@ -88,8 +87,7 @@ fn jobs_of_a(out: &impl Print) -> io::Result<()> {
 fn row(report: Report, s: usize) -> Row
     requires { (1 ≤ s) × (s ≤ most) }
 {
-    let rows = report.rows;
-    rows[s - 1]
+    report.rows[s - 1]
 }
 
 fn variations_of_a(out: &impl Print) -> io::Result<()> {
@@ -109,7 +107,7 @@ fn variations_of_a(out: &impl Print) -> io::Result<()> {
     print::figure(
         out,
         "A with D of subsystem 1 at 133, row 1: local ",
-        wide(first.failing),
+        u64::from(first.failing),
     )
 }
 
@@ -122,15 +120,15 @@ fn response_of_c(out: &impl Print, t: Table, k: u32) -> io::Result<()> {
 fn table_c(out: &impl Print) -> io::Result<()> {
     let t = tables::table_c();
     let second = row(report::analyse(t), 2);
-    print::figure(out, "C row 2: L ", wide(second.active))?;
-    print::figure(out, "C row 2: jobs ", wide(second.jobs))?;
+    print::figure(out, "C row 2: L ", u64::from(second.active))?;
+    print::figure(out, "C row 2: jobs ", u64::from(second.jobs))?;
     response_of_c(out, t, 0)?;
     response_of_c(out, t, 1)?;
     response_of_c(out, t, 2)?;
     response_of_c(out, t, 3)?;
     response_of_c(out, t, 4)?;
     print::outcome(out, "C row 2: ", second)?;
-    print::figure(out, "C row 2: job ", wide(second.job))
+    print::figure(out, "C row 2: job ", u64::from(second.job))
 }
 
 // rc of resource 1, from 1, in a subsystem with two tasks.
@@ -140,16 +138,17 @@ fn inner_ceiling(sub: Subsystem) -> u64
     let mut block = [[0u32; LINE]; BLOCK];
     lay_out_subsystem(sub, &mut block);
     let ceiling = holding::inner_ceiling(&block, 1, 0) + 1;
+    // `u64::from` takes no usize.
     ceiling as u64
 }
 
-// X of two tasks, and what a second access to the resource changes.
 // X of subsystem 1, alone in its table with one resource.
 fn holding_of(sub: Subsystem) -> u64 {
     let alone = row(report::analyse(tables::of_one(1, sub)), 1);
-    wide(alone.holding)
+    u64::from(alone.holding)
 }
 
+// X of two tasks, and what a second access to the resource changes.
 fn holdings(out: &impl Print) -> io::Result<()> {
     let second = tables::two_tasks(0, 2);
     print::figure(out, "task 2 with c 2: X ", holding_of(second))?;
@@ -168,11 +167,9 @@ fn holdings(out: &impl Print) -> io::Result<()> {
 
 fn judgements(out: &impl Print) -> io::Result<()> {
     let held_4 = report::analyse(tables::held_for(4));
-    let admitted = held_4.judged;
-    print::judgement(out, "P 10 Q 6 c 4: ", admitted)?;
+    print::judgement(out, "P 10 Q 6 c 4: ", held_4.judged)?;
     let held_5 = report::analyse(tables::held_for(5));
-    let refused = held_5.judged;
-    print::judgement(out, "P 10 Q 6 c 5: ", refused)
+    print::judgement(out, "P 10 Q 6 c 5: ", held_5.judged)
 }
 
 fn no_active_period(out: &impl Print) -> io::Result<()> {
@@ -183,11 +180,11 @@ fn no_active_period(out: &impl Print) -> io::Result<()> {
 
 fn empty_file(out: &impl Print) -> io::Result<()> {
     let reading = reader::read_table(b"");
-    let answer = reading.answer;
-    let refusal = stored::file_refusal(answer);
-    let number = refusal.number;
-    let offset = refusal.offset;
-    println!(out; "empty file: refused {number} at {offset}")
+    let refusal = stored::file_refusal(reading.answer);
+    println!(out;
+        "empty file: refused {} at {}",
+        refusal.number, refusal.offset
+    )
 }
 
 fn main(rt: HostRuntime) -> io::Result<()> {

@@ -11,8 +11,7 @@ pub(crate) fn figure(out: &impl Print, name: &str, n: u64) -> io::Result<()> {
 
 // A line with how a row ends.
 pub(crate) fn outcome(out: &impl Print, name: &str, row: Row) -> io::Result<()> {
-    let outcome = row.outcome;
-    match outcome {
+    match row.outcome {
         Outcome::Fits(r) => println!(out; "{name}R {r} fits"),
         Outcome::Late(r) => println!(out; "{name}R {r} late"),
         Outcome::None => println!(out; "{name}none"),
@@ -24,8 +23,10 @@ pub(crate) fn judgement(out: &impl Print, name: &str, judged: Judged) -> io::Res
     let Judged::Refused(rule, place) = judged else {
         return println!(out; "{name}admitted");
     };
-    let number = rule_number(rule);
-    let subsystem = place.subsystem;
-    let task = place.task;
-    println!(out; "{name}refused {number} at {subsystem} {task}")
+    println!(out;
+        "{name}refused {} at {} {}",
+        rule_number(rule),
+        place.subsystem,
+        place.task
+    )
 }

@@ -21,12 +21,9 @@ pub fn put_bytes(buf: &mut [u8], at: usize, bytes: &[u8]) -> usize
     requires { at + length bytes.now ≤ length buf.old }
     ensures { (result ≡ at + length bytes.now) × (buf.new ≡ written buf.old at bytes.now) }
 {
-    let mut i = 0;
-    while i < bytes.len() {
-        buf[at + i] = bytes[i];
-        i += 1;
-    }
-    at + i
+    let end = at + bytes.len();
+    buf[at..end].copy_from_slice(bytes);
+    end
 }
 
 // A number, in decimal, without leading zeros. Most numbers have one digit; those are written here and need no call of a
@@ -60,6 +57,7 @@ fn put_three(buf: &mut [u8], at: usize, x: u32) -> usize
 }
 
 // A number of two digits or more: the digits before the last two, then those. Up to three digits need no call of its own.
+// By recursion and not by a loop: the front comes first, and two digits a step take half as many divisions as one.
 fn put_digits(buf: &mut [u8], at: usize, x: u32) -> usize
     requires { (10 ≤ x) × (at + length (decimal x) ≤ length buf.old) }
     ensures { (result ≡ at + length (decimal x)) × (buf.new ≡ written buf.old at (decimal x)) }
@@ -79,5 +77,5 @@ fn digit(d: u32) -> u8
     requires { d < 10 }
     ensures { result ≡ digit_byte d }
 {
-    48 + d as u8
+    b'0' + d as u8
 }

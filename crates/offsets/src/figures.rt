@@ -11,7 +11,6 @@ ghost use Rattle.offsets.specs.Judgement.{place_size, place_bytes};
 
 use crate::Judgement;
 use crate::judging::{file_judgement, table_judgement};
-use numbers::index;
 use report::Report;
 use row::{Outcome, Row};
 use rows::no_row;
@@ -42,7 +41,7 @@ fn outcome_number(outcome: Outcome) -> u32
 fn flag_number(accepted: bool) -> u32
     ensures { result ≡ flag accepted }
 {
-    if accepted { 1 } else { 0 }
+    u32::from(accepted)
 }
 
 // N as a report states it.
@@ -50,7 +49,7 @@ fn stated_count(judged: Judged, n: u8) -> u32
     ensures { result ≡ counted judged n }
 {
     match judged {
-        Judged::Admitted => n as u32,
+        Judged::Admitted => u32::from(n),
         Judged::Refused(_, _) => 0,
     }
 }
@@ -61,11 +60,8 @@ fn put_numbers(free: &mut [u8], numbers: &[u32]) -> usize
     ensures { IsPut (flat_map number_bytes numbers.now) free.old free.new result }
 {
     let mut at = 0;
-    let mut i = 0;
-    while i < numbers.len() {
-        let x = numbers[i];
+    for &x in numbers {
         at += put_number(&mut free[at..], x);
-        i += 1;
     }
     at
 }
@@ -84,17 +80,16 @@ fn put_row(free: &mut [u8], row: Row) -> usize
     requires { number_size * row_count ≤ length free.old }
     ensures { IsPut (flat_map number_bytes (row_figures row)) free.old free.new result }
 {
-    let outcome = row.outcome;
     let numbers = [
         row.holding,
         row.failing,
         row.blocking,
         row.active,
         row.jobs,
-        response(outcome),
+        response(row.outcome),
         row.job,
         row.resource,
-        outcome_number(outcome),
+        outcome_number(row.outcome),
     ];
     put_numbers(free, &numbers)
 }
@@ -105,11 +100,8 @@ fn put_rows(free: &mut [u8], rows: [Row; Table::MOST]) -> usize
     ensures { IsPut (flat_map number_bytes (flat_map row_figures rows)) free.old free.new result }
 {
     let mut at = 0;
-    let mut s = 0;
-    while s < Table::MOST {
-        let row = rows[s];
+    for row in rows {
         at += put_row(&mut free[at..], row);
-        s += 1;
     }
     at
 }
@@ -135,11 +127,9 @@ fn put_report(free: &mut [u8], report: Report, n: u8) -> usize
     requires { report_size ≤ length free.old }
     ensures { IsPut (flat_map number_bytes (figures_of report n)) free.old free.new result }
 {
-    let judged = report.judged;
-    let rows = report.rows;
-    let j = table_judgement(judged);
-    let count = stated_count(judged, n);
-    put_figures(free, j, report.accepted, count, rows)
+    let j = table_judgement(report.judged);
+    let count = stated_count(report.judged, n);
+    put_figures(free, j, report.accepted, count, report.rows)
 }
 
 // The figures of any file. A refused file has its judgement and no figure.
@@ -149,12 +139,11 @@ pub fn put_file(free: &mut [u8], file: &[u8]) -> usize
 {
     let mut grid = [[[0u32; LINE]; BLOCK]; Table::MOST];
     let head = reader::read_grid(file, &mut grid);
-    let answer = head.answer;
-    let ReadAnswer::Whole = answer else {
-        let j = file_judgement(stored::file_refusal(answer));
+    let ReadAnswer::Whole = head.answer else {
+        let j = file_judgement(stored::file_refusal(head.answer));
         return put_figures(free, j, false, 0, [no_row(); Table::MOST]);
     };
-    let report = report::report_of(&grid, index(head.count), index(head.resources));
+    let report = report::report_of(&grid, usize::from(head.count), usize::from(head.resources));
     put_report(free, report, head.count)
 }
 

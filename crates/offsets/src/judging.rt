@@ -4,7 +4,6 @@ ghost use Rattle.offsets.specs.Judgement.{file_judgement, table_judgement, judge
 
 use crate::Judgement;
 use judge::judge_grid;
-use numbers::index;
 use rules::Judged;
 use rules::places::rule_number;
 use stored::{FileRefusal, ReadAnswer};
@@ -17,7 +16,7 @@ pub fn file_judgement(refusal: FileRefusal) -> Judgement
     ensures { result ≡ file_judgement refusal }
 {
     Judgement {
-        number: refusal.number as u32,
+        number: u32::from(refusal.number),
         first: refusal.offset as u32,
         second: 0,
     }
@@ -35,8 +34,8 @@ pub fn table_judgement(judged: Judged) -> Judgement
         },
         Judged::Refused(rule, place) => Judgement {
             number: rule_number(rule),
-            first: place.subsystem as u32,
-            second: place.task as u32,
+            first: u32::from(place.subsystem),
+            second: u32::from(place.task),
         },
     }
 }
@@ -47,15 +46,14 @@ pub fn judge_file(file: &[u8]) -> Judgement
 {
     let mut grid = [[[0u32; LINE]; BLOCK]; Table::MOST];
     let head = reader::read_grid(file, &mut grid);
-    let answer = head.answer;
-    let ReadAnswer::Whole = answer else {
-        return file_judgement(stored::file_refusal(answer));
+    let ReadAnswer::Whole = head.answer else {
+        return file_judgement(stored::file_refusal(head.answer));
     };
     let mut holdings = [[0u64; Table::MOST]; Table::MOST];
     let judged = judge_grid(
         &grid,
-        index(head.count),
-        index(head.resources),
+        usize::from(head.count),
+        usize::from(head.resources),
         &mut holdings,
     );
     table_judgement(judged)

@@ -28,11 +28,10 @@ pub fn print_text_in<W: Write>(
         → OnOk result (Appends (W.contents out.old) (W.contents out.new) (text_of file.now)) }
     ensures unwritten { length buf.old < text_room → Keeps (W.contents out.old) (W.contents out.new) }
 {
-    let printed = text::check_text_in(file, grid, buf);
-    if let Printed::Text(len) = printed {
-        return out.write_all(&buf[..len]);
+    match text::check_text_in(file, grid, buf) {
+        Printed::Text(len) => out.write_all(&buf[..len]),
+        Printed::NoRoom => Ok(()),
     }
-    Ok(())
 }
 
 // The same for one file.
@@ -44,7 +43,8 @@ pub fn print_text<W: Write>(out: &mut W, file: &[u8]) -> io::Result<()>
     print_text_in(out, file, &mut grid, &mut buf)
 }
 
-// Reads until the space is full or the input ends, and gives how many bytes came. They stand at the space's start.
+// Reads until the space is full or the input ends, and gives how many bytes came. They stand at the space's start. `read_exact`
+// does not say how many came before the end, so the reads are made here.
 pub fn read_up_to<R: Read>(input: &mut R, space: &mut [u8]) -> io::Result<usize>
     ensures within { IfOk result (λ n. n ≤ length space.old) }
     ensures bytes { IfOk result (λ n. Consumes (R.remaining input.old) (R.remaining input.new) (take n space.new)) }

@@ -11,22 +11,14 @@ use table::Table;
 pub fn row_fits(outcome: Outcome) -> bool
     ensures { result ≡ fits outcome }
 {
-    match outcome {
-        Outcome::Fits(_) => true,
-        Outcome::Late(_) => false,
-        Outcome::None => false,
-    }
+    matches!(outcome, Outcome::Fits(_))
 }
 
 // Whether a row's tasks all pass and it fits.
 pub fn is_accepted(row: Row) -> bool
     ensures { result ≡ row_accepted row }
 {
-    if row.failing == 0 {
-        let outcome = row.outcome;
-        return row_fits(outcome);
-    }
-    false
+    row.failing == 0 && row_fits(row.outcome)
 }
 
 // Whether each of the first n rows is accepted.
@@ -34,13 +26,5 @@ pub fn all_accepted(rows: [Row; Table::MOST], n: usize) -> bool
     requires { n ≤ most }
     ensures { result ≡ all_to (slot_accepted rows) n }
 {
-    let mut s = 0;
-    while s < n {
-        let row = rows[s];
-        if !is_accepted(row) {
-            return false;
-        }
-        s += 1;
-    }
-    true
+    rows[..n].iter().all(|row| is_accepted(*row))
 }

@@ -12,7 +12,6 @@ ghost use Rattle.rows.specs.Rows.{no_row};
 ghost use Rattle.report.specs.Report.{report_of};
 
 use judge::{judge_counts, judge_grid};
-use numbers::index;
 use row::Row;
 use rules::Judged;
 use table::Table;
@@ -69,5 +68,5 @@ pub fn analyse(t: Table) -> Report
     };
     let mut grid = [[[0u32; LINE]; BLOCK]; Table::MOST];
     table::grid::lay_out(t, &mut grid);
-    report_of(&grid, index(t.count), index(t.resources))
+    report_of(&grid, usize::from(t.count), usize::from(t.resources))
 }

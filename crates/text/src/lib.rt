@@ -13,7 +13,6 @@ ghost use Rattle.text.specs.Text.{slot_line, report_text, table_text, text_of, I
 ghost use Rattle.wording.specs.Wrote.{Wrote};
 
 use lines::put_bytes;
-use numbers::index;
 use report::Report;
 use row::Row;
 use rules::Judged;
@@ -52,11 +51,8 @@ fn put_rows(buf: &mut [u8], at: usize, rows: [Row; Table::MOST], n: usize) -> us
     ensures { Wrote buf.old at (join_to (slot_line rows) n) buf.new result }
 {
     let mut next = at;
-    let mut s = 0;
-    while s < n {
-        let row = rows[s];
-        next = put_row(buf, next, s, row);
-        s += 1;
+    for (s, row) in rows[..n].iter().enumerate() {
+        next = put_row(buf, next, s, *row);
     }
     next
 }
@@ -67,13 +63,11 @@ fn put_report(buf: &mut [u8], report: Report, n: usize) -> usize
     requires text_room_in_bounds { text_room ≤ length buf.old }
     ensures { Wrote buf.old 0 (report_text report n) buf.new result }
 {
-    let judged = report.judged;
-    if let Judged::Refused(rule, place) = judged {
+    if let Judged::Refused(rule, place) = report.judged {
         return put_refused_table(buf, 0, rule, place);
     }
     let at = put_verdict(buf, report.accepted);
-    let rows = report.rows;
-    put_rows(buf, at, rows, n)
+    put_rows(buf, at, report.rows, n)
 }
 
 // The text of a grid of n subsystems and m resources whose counts rule 1 has passed.
@@ -94,11 +88,15 @@ fn put_text(file: &[u8], grid: &mut [[[u32; LINE]; BLOCK]; Table::MOST], buf: &m
     ensures has_blocks_2 { HasBlocks grid.new }
 {
     let head = reader::read_grid(file, grid);
-    let answer = head.answer;
-    let ReadAnswer::Whole = answer else {
-        return put_refused_file(buf, 0, stored::file_refusal(answer));
+    let ReadAnswer::Whole = head.answer else {
+        return put_refused_file(buf, 0, stored::file_refusal(head.answer));
     };
-    put_grid(buf, grid, index(head.count), index(head.resources))
+    put_grid(
+        buf,
+        grid,
+        usize::from(head.count),
+        usize::from(head.resources),
+    )
 }
 
 // The text of any file, as `check_text` leaves it, by way of a grid that the caller lends: one who asks for many texts makes

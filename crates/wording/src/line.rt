@@ -37,8 +37,7 @@ pub fn response(outcome: Outcome) -> u32
     ensures { result ≡ reported outcome }
 {
     match outcome {
-        Outcome::Fits(r) => r,
-        Outcome::Late(r) => r,
+        Outcome::Fits(r) | Outcome::Late(r) => r,
         Outcome::None => 0,
     }
 }
@@ -60,12 +59,11 @@ fn put_row_end(buf: &mut [u8], at: usize, row: Row) -> usize
     requires { at + end_most ≤ length buf.old }
     ensures { Wrote buf.old at (row_end row) buf.new result }
 {
-    let outcome = row.outcome;
     let jobs = put_figure(buf, at, b" jobs ", row.jobs);
-    let worst = put_figure(buf, jobs, b" R ", response(outcome));
+    let worst = put_figure(buf, jobs, b" R ", response(row.outcome));
     let job = put_figure(buf, worst, b" job ", row.job);
     let resource = put_figure(buf, job, b" res ", row.resource);
-    put_outcome(buf, resource, outcome)
+    put_outcome(buf, resource, row.outcome)
 }
 
 // The line of the subsystem at index s.

@@ -17,8 +17,8 @@ pub fn put_refused_table(buf: &mut [u8], at: usize, rule: Rule, place: Place) ->
     ensures { Wrote buf.old at (refused_table (refusal (Judged.Refused rule place))) buf.new result }
 {
     let number = put_figure(buf, at, b"refused ", rule_number(rule));
-    let subsystem = put_figure(buf, number, b" at ", place.subsystem as u32);
-    let task = put_figure(buf, subsystem, b" ", place.task as u32);
+    let subsystem = put_figure(buf, number, b" at ", u32::from(place.subsystem));
+    let task = put_figure(buf, subsystem, b" ", u32::from(place.task));
     put_bytes(buf, task, b"\n")
 }
 
@@ -27,7 +27,7 @@ pub fn put_refused_file(buf: &mut [u8], at: usize, refusal: FileRefusal) -> usiz
     requires { (refusal.offset < 2 ^ 32) × (at + line_most ≤ length buf.old) }
     ensures { Wrote buf.old at (refused_file refusal) buf.new result }
 {
-    let number = put_figure(buf, at, b"refused ", refusal.number as u32);
+    let number = put_figure(buf, at, b"refused ", u32::from(refusal.number));
     let offset = put_figure(buf, number, b" at ", refusal.offset as u32);
     put_bytes(buf, offset, b"\n")
 }

@@ -8,10 +8,6 @@ pub put_byte-requires : goal.put_byte-requires
 put_byte-requires c =
     omega (arith, one_digit c.args.n c.if-n-lt10.true, c.requires)
 
-pub shape_of-buf-then-n-lt10 : goal.shape_of-buf-then-n-lt10
-shape_of-buf-then-n-lt10 c =
-    c.put_byte.auto.buf
-
 pub returns-then-n-lt10 : goal.returns-then-n-lt10
 returns-then-n-lt10 c =
     small_number c.args.buf.now c.args.at c.args.n _ _ _ (omega arith) c.digit.ensures c.put_byte.ensures.0 c.put_byte.ensures.1

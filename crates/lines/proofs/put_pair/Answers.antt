@@ -1,11 +1,6 @@
 -- `lines::put_pair` meets its contract: a first digit and a last one. Assumes nothing.
 use Rattle.lines.proofs.NumberLaws.{pair_written}
-use native.Mathlib.Omega.{arith}
 use Rattle.lines.proofs.put_pair.Goals as goal
-
-pub put_byte-requires : goal.put_byte-requires
-put_byte-requires c =
-    omega (arith, c.requires.1, c.put_byte-last.ensures.0, c.put_byte-last.auto.buf)
 
 pub returns : goal.returns
 returns c =

@@ -17,9 +17,9 @@ lay_out-requires c =
 
 pub report_of-requires : goal.report_of-requires
 report_of-requires c =
-    let means = laid_out_means _ _ c.lay_out.ensures _ _ c.index.ensures.0 c.index-2.ensures.0 in
+    let means = laid_out_means _ _ c.lay_out.ensures _ _ c.from.ensures c.from-2.ensures in
     ap counts_judged means ∙ sym c.judge_counts-counts.ensures ∙ c.in-Admitted.is
 
 pub returns : goal.returns
 returns c =
-    c.report_of.ensures ∙ ap report_of (laid_out_means _ _ c.lay_out.ensures _ _ c.index.ensures.0 c.index-2.ensures.0)
+    c.report_of.ensures ∙ ap report_of (laid_out_means _ _ c.lay_out.ensures _ _ c.from.ensures c.from-2.ensures)

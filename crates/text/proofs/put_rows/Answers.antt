@@ -1,29 +1,31 @@
+use Prim.Native.Nat.{◌<◌}
+use mathlib.Core.Path.{◌≡◌, ap}
+use lib.ListN.{length, take, length-take}
+use lib.Seq.{length-take-le, get_or-take}
+use Rattle.report.specs.Report.{past_rows}
+use Rattle.wording.specs.Lines.{row_line}
+use Rattle.wording.proofs.WroteLaws.{wrote_same}
+use Rattle.text.proofs.RowsLaws.{rows_begin, room_for_row, rows_go_on, rows_end}
 use borrow.Author.Rules.{rules}
-use Rattle.lists.proofs.Turn.{turn_within, turn_less}
-use Rattle.text.proofs.RowsLaws.{rows_begin, room_for_row, rows_go_on, rows_end, rows_length}
 use native.Mathlib.Omega.{arith}
 use Rattle.text.proofs.put_rows.Goals as goal
 
 pub loop-s-init : goal.loop-s-init
 loop-s-init c =
-    (search rules, rows_begin _ _ _)
+    rows_begin _ _ _
 
 pub put_row-next-requires : goal.put_row-next-requires
 put_row-next-requires c =
-    (omega arith, room_for_row c.args.rows c.args.buf.now c.args.at c.loop-s.s c.loop-s.next c.loop-s.buf c.requires.1 (omega arith) c.loop-s.invariant.1)
-
-pub loop-s-smaller : goal.loop-s-smaller
-loop-s-smaller c =
-    turn_less _ _ c.loop-s-test.true
+    let below : c.loop-s.s < c.args.n = omega (arith, length-take c.args.n c.args.rows) in
+    (omega (arith, below), room_for_row c.args.rows c.args.buf.now c.args.at c.loop-s.s c.loop-s.next c.loop-s.buf c.requires.1 (omega (arith, below)) c.loop-s.invariant)
 
 pub loop-s-preserved : goal.loop-s-preserved
 loop-s-preserved c =
-    (turn_within _ _ c.loop-s-test.true, rows_go_on c.args.rows c.args.buf.now c.args.at c.loop-s.s c.loop-s.next c.loop-s.buf c.requires.1 (omega arith) c.loop-s.invariant.1 _ _ c.put_row-next.ensures)
-
-pub shape_of-buf : goal.shape_of-buf
-shape_of-buf c =
-    rows_length c.args.rows c.args.buf.now c.args.at c.loop-s.s c.loop-s.next c.loop-s.buf c.requires.1 (omega arith) c.loop-s.invariant.1
+    let below : c.loop-s.s < c.args.n = omega (arith, length-take c.args.n c.args.rows) in
+    rows_go_on c.args.rows c.args.buf.now c.args.at c.loop-s.s c.loop-s.next c.loop-s.buf c.requires.1 (omega (arith, below)) c.loop-s.invariant _ _
+    (wrote_same (ap (row_line c.loop-s.s) (get_or-take c.args.n c.args.rows c.loop-s.s past_rows below)) c.put_row-next.ensures)
 
 pub returns : goal.returns
 returns c =
-    rows_end c.args.rows c.args.buf.now c.args.at c.args.n c.loop-s.s c.loop-s.next c.loop-s.buf (omega arith) (omega arith) c.loop-s.invariant.1
+    let all : length (take c.args.n c.args.rows) ≡ c.args.n = length-take-le c.args.n c.args.rows (search rules) in
+    rows_end c.args.rows c.args.buf.now c.args.at c.args.n c.loop-s.s c.loop-s.next c.loop-s.buf (omega (arith, all)) (omega (arith, all)) c.loop-s.invariant

@@ -17,8 +17,8 @@ returns-in_default c =
 
 pub put_grid-requires : goal.put_grid-requires
 put_grid-requires c =
-    record { grid_value = grid_counts_pass _ _ _ c.read_grid-head.ensures c.in-Whole.is _ _ c.index.ensures.0 c.index-2.ensures.0; text_room_in_bounds = search rules }
+    record { grid_value = grid_counts_pass _ _ _ c.read_grid-head.ensures c.in-Whole.is _ _ c.from.ensures c.from-2.ensures; text_room_in_bounds = search rules }
 
 pub returns : goal.returns
 returns c =
-    record { wrote = wrote_same (text_of_read_file _ _ _ c.read_grid-head.ensures c.in-Whole.is _ (grid_means_table _ _ _ c.read_grid-head.ensures c.in-Whole.is _ _ c.index.ensures.0 c.index-2.ensures.0)) c.put_grid.ensures; has_blocks_2 = c.read_grid-head.ensures.blocks }
+    record { wrote = wrote_same (text_of_read_file _ _ _ c.read_grid-head.ensures c.in-Whole.is _ (grid_means_table _ _ _ c.read_grid-head.ensures c.in-Whole.is _ _ c.from.ensures c.from-2.ensures)) c.put_grid.ensures; has_blocks_2 = c.read_grid-head.ensures.blocks }

@@ -25,10 +25,10 @@ returns-in_default c =
 
 pub report_of-report-requires : goal.report_of-report-requires
 report_of-report-requires c =
-    grid_counts_pass _ _ _ c.read_grid-head.ensures c.in-Whole.is _ _ c.index.ensures.0 c.index-2.ensures.0
+    grid_counts_pass _ _ _ c.read_grid-head.ensures c.in-Whole.is _ _ c.from.ensures c.from-2.ensures
 
 pub returns : goal.returns
 returns c =
     put_the_same _ _ _ _ _
-    (ap (flat_map number_bytes) (read_figures _ _ c.read_grid-head.ensures.answer_is _ _ _ c.in-Whole.is (grid_means_table _ _ _ c.read_grid-head.ensures c.in-Whole.is _ _ c.index.ensures.0 c.index-2.ensures.0) c.report_of-report.ensures (sym (count_of_grid _ _ _ ∙ c.index.ensures.0))))
+    (ap (flat_map number_bytes) (read_figures _ _ c.read_grid-head.ensures.answer_is _ _ _ c.in-Whole.is (grid_means_table _ _ _ c.read_grid-head.ensures c.in-Whole.is _ _ c.from.ensures c.from-2.ensures) c.report_of-report.ensures (sym (count_of_grid _ _ _ ∙ c.from.ensures))))
     c.put_report.ensures

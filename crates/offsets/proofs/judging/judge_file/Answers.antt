@@ -20,8 +20,8 @@ returns-in_default c =
 
 pub judge_grid-judged-requires : goal.judge_grid-judged-requires
 judge_grid-judged-requires c =
-    record { grid_value = grid_counts_pass _ _ _ c.read_grid-head.ensures c.in-Whole.is _ _ c.index.ensures.0 c.index-2.ensures.0; holdings_value = refl }
+    record { grid_value = grid_counts_pass _ _ _ c.read_grid-head.ensures c.in-Whole.is _ _ c.from.ensures c.from-2.ensures; holdings_value = refl }
 
 pub returns : goal.returns
 returns c =
-    judgement_of_read _ _ c.read_grid-head.ensures.answer_is _ _ _ c.in-Whole.is (grid_means_table _ _ _ c.read_grid-head.ensures c.in-Whole.is _ _ c.index.ensures.0 c.index-2.ensures.0) c.judge_grid-judged.ensures.value c.table_judgement.ensures
+    judgement_of_read _ _ c.read_grid-head.ensures.answer_is _ _ _ c.in-Whole.is (grid_means_table _ _ _ c.read_grid-head.ensures c.in-Whole.is _ _ c.from.ensures c.from-2.ensures) c.judge_grid-judged.ensures.value c.table_judgement.ensures

@@ -8,4 +8,4 @@ returns-in-Admitted c =
 
 pub returns-in-Refused : goal.returns-in-Refused
 returns-in-Refused c =
-    refused_judgement _ _ _ _ c.in-Refused.is c.rule_number.ensures
+    rw (c.from.ensures, c.from-in-Refused.ensures) (refused_judgement _ _ _ _ c.in-Refused.is c.rule_number.ensures)

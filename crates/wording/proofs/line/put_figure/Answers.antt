@@ -1,6 +1,5 @@
 -- `wording::line::put_figure` meets its contract. Assumes nothing.
 use native.Mathlib.Omega.{arith}
-use mathlib.Core.Path.{◌∙◌}
 use Rattle.lines.proofs.DecimalLaws.{decimal_at_most_ten}
 use Rattle.wording.proofs.WroteLaws.{wrote, wrote_then}
 use Rattle.wording.proofs.line.put_figure.Goals as goal
@@ -14,10 +13,6 @@ put_number-requires c =
       c.put_bytes-mid.auto.buf,
       c.requires,
     )
-
-pub shape_of-buf : goal.shape_of-buf
-shape_of-buf c =
-    c.put_number.auto.buf ∙ c.put_bytes-mid.auto.buf
 
 pub returns : goal.returns
 returns c =

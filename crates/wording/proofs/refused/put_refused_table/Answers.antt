@@ -28,7 +28,7 @@ put_figure-task-requires c =
       writes = wrote_same (ap (figure "refused ") c.rule_number.ensures) c.put_figure-number.ensures;
       small = figure_most (word "refused ") (number_of c.args.rule);
     } in
-    let behind_subsystem : Wrote_so_far 32 (((figure "refused " (number_of c.args.rule)) ++ figure " at " c.args.place.subsystem)) c.put_figure-subsystem.new.buf c.put_figure-subsystem.result = run_on (omega (arith, c.requires)) (behind_number) (figure_most (word " at ") c.args.place.subsystem) c.put_figure-subsystem.ensures in
+    let behind_subsystem : Wrote_so_far 32 (((figure "refused " (number_of c.args.rule)) ++ figure " at " c.args.place.subsystem)) c.put_figure-subsystem.new.buf c.put_figure-subsystem.result = run_on (omega (arith, c.requires)) (behind_number) (figure_most (word " at ") c.args.place.subsystem) (wrote_same (ap (figure " at ") c.from.ensures) c.put_figure-subsystem.ensures) in
     omega (arith, run_room 11 (omega (arith, c.requires)) (behind_subsystem))
 
 pub put_bytes-requires : goal.put_bytes-requires
@@ -39,8 +39,8 @@ put_bytes-requires c =
       writes = wrote_same (ap (figure "refused ") c.rule_number.ensures) c.put_figure-number.ensures;
       small = figure_most (word "refused ") (number_of c.args.rule);
     } in
-    let behind_subsystem : Wrote_so_far 32 (((figure "refused " (number_of c.args.rule)) ++ figure " at " c.args.place.subsystem)) c.put_figure-subsystem.new.buf c.put_figure-subsystem.result = run_on (omega (arith, c.requires)) (behind_number) (figure_most (word " at ") c.args.place.subsystem) c.put_figure-subsystem.ensures in
-    let behind_task : Wrote_so_far 43 ((((figure "refused " (number_of c.args.rule)) ++ figure " at " c.args.place.subsystem) ++ figure " " c.args.place.task)) c.put_figure-task.new.buf c.put_figure-task.result = run_on (omega (arith, c.requires)) (behind_subsystem) (figure_most (word " ") c.args.place.task) c.put_figure-task.ensures in
+    let behind_subsystem : Wrote_so_far 32 (((figure "refused " (number_of c.args.rule)) ++ figure " at " c.args.place.subsystem)) c.put_figure-subsystem.new.buf c.put_figure-subsystem.result = run_on (omega (arith, c.requires)) (behind_number) (figure_most (word " at ") c.args.place.subsystem) (wrote_same (ap (figure " at ") c.from.ensures) c.put_figure-subsystem.ensures) in
+    let behind_task : Wrote_so_far 43 ((((figure "refused " (number_of c.args.rule)) ++ figure " at " c.args.place.subsystem) ++ figure " " c.args.place.task)) c.put_figure-task.new.buf c.put_figure-task.result = run_on (omega (arith, c.requires)) (behind_subsystem) (figure_most (word " ") c.args.place.task) (wrote_same (ap (figure " ") c.from-2.ensures) c.put_figure-task.ensures) in
     omega (arith, run_room 1 (omega (arith, c.requires)) (behind_task))
 
 pub returns : goal.returns
@@ -51,6 +51,6 @@ returns c =
       writes = wrote_same (ap (figure "refused ") c.rule_number.ensures) c.put_figure-number.ensures;
       small = figure_most (word "refused ") (number_of c.args.rule);
     } in
-    let behind_subsystem : Wrote_so_far 32 (((figure "refused " (number_of c.args.rule)) ++ figure " at " c.args.place.subsystem)) c.put_figure-subsystem.new.buf c.put_figure-subsystem.result = run_on (omega (arith, c.requires)) (behind_number) (figure_most (word " at ") c.args.place.subsystem) c.put_figure-subsystem.ensures in
-    let behind_task : Wrote_so_far 43 ((((figure "refused " (number_of c.args.rule)) ++ figure " at " c.args.place.subsystem) ++ figure " " c.args.place.task)) c.put_figure-task.new.buf c.put_figure-task.result = run_on (omega (arith, c.requires)) (behind_subsystem) (figure_most (word " ") c.args.place.task) c.put_figure-task.ensures in
+    let behind_subsystem : Wrote_so_far 32 (((figure "refused " (number_of c.args.rule)) ++ figure " at " c.args.place.subsystem)) c.put_figure-subsystem.new.buf c.put_figure-subsystem.result = run_on (omega (arith, c.requires)) (behind_number) (figure_most (word " at ") c.args.place.subsystem) (wrote_same (ap (figure " at ") c.from.ensures) c.put_figure-subsystem.ensures) in
+    let behind_task : Wrote_so_far 43 ((((figure "refused " (number_of c.args.rule)) ++ figure " at " c.args.place.subsystem) ++ figure " " c.args.place.task)) c.put_figure-task.new.buf c.put_figure-task.result = run_on (omega (arith, c.requires)) (behind_subsystem) (figure_most (word " ") c.args.place.task) (wrote_same (ap (figure " ") c.from-2.ensures) c.put_figure-task.ensures) in
     (run_on {j = 1} (omega (arith, c.requires)) (behind_task) (omega arith) (wrote c.put_bytes.ensures)).writes
