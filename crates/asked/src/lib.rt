@@ -16,7 +16,6 @@ ghost use Rattle.rules.specs.Rules.{counts_judged};
 ghost use Rattle.asked.specs.Jobs.{end_of, job_end_of};
 
 use judge::{judge_counts, judge_grid};
-use numbers::index;
 use outer::Common;
 use outer::interfaces::{WIDTH, held};
 use rows::interface::interfaces_of;
@@ -52,10 +51,7 @@ fn end_of(
     if l == 0 {
         return JobEnd::At(ends::budget_end(lines, n, m, common, s, k));
     }
-    if m < l {
-        return JobEnd::Nothing;
-    }
-    if held(lines, s, l - 1) == 0 {
+    if m < l || held(lines, s, l - 1) == 0 {
         return JobEnd::Nothing;
     }
     JobEnd::At(ends::job_end(lines, n, m, common, s, k, l - 1))
@@ -74,14 +70,10 @@ fn end_in_grid(
     ensures { result ≡ job_end_of (system_in n m grid.now) s k l }
 {
     let mut holdings = [[0u64; Table::MOST]; Table::MOST];
-    let judged = judge_grid(grid, n, m, &mut holdings);
-    let Judged::Admitted = judged else {
+    let Judged::Admitted = judge_grid(grid, n, m, &mut holdings) else {
         return JobEnd::Nothing;
     };
-    if s == 0 {
-        return JobEnd::Nothing;
-    }
-    if n < s {
+    if s == 0 || n < s {
         return JobEnd::Nothing;
     }
     let mut lines = [[0u32; WIDTH]; Table::MOST];
@@ -96,18 +88,17 @@ fn end_in_grid(
 pub fn job_end(t: Table, s: u8, k: u32, l: u8) -> JobEnd
     ensures { result ≡ job_end_of (meaning t) s k l }
 {
-    let counts = judge_counts(t);
-    let Judged::Admitted = counts else {
+    let Judged::Admitted = judge_counts(t) else {
         return JobEnd::Nothing;
     };
     let mut grid = [[[0u32; LINE]; BLOCK]; Table::MOST];
     table::grid::lay_out(t, &mut grid);
     end_in_grid(
         &grid,
-        index(t.count),
-        index(t.resources),
-        index(s),
+        usize::from(t.count),
+        usize::from(t.resources),
+        usize::from(s),
         k,
-        index(l),
+        usize::from(l),
     )
 }

@@ -28,7 +28,8 @@ fn say<W: Write>(out: &mut W, words: &[u8], k: u32) -> io::Result<()> {
     out.write_all(&rest[..end])
 }
 
-// Passes over so many bytes of the input, by way of the space; false where they do not all come.
+// Passes over so many bytes of the input, by way of the space; false where they do not all come. Each read fills the space but the
+// last, and one that does not ends the loop, so it goes on what is left and not over a range.
 fn pass_over<R: Read>(input: &mut R, bytes: u32, space: &mut [u8]) -> io::Result<bool>
     requires { length space.old ≡ 2048 }
 {
@@ -57,7 +58,7 @@ fn broken<W: Write>(out: &mut W, k: u32) -> io::Result<bool> {
 fn judged_part(size: u32) -> u32
     ensures { (result ≤ 4096) × (result ≤ size) }
 {
-    if size < 4096 { size } else { 4096 }
+    size.min(4096)
 }
 
 // Judges file k, of so many bytes, in a space of 4,096; false where they do not all come. The table goes into the grid, and the
@@ -80,8 +81,7 @@ fn judge_file<R: Read, W: Write>(
     if came < wanted {
         return broken(streams, k);
     }
-    let all_passed = pass_over(streams, size - part, buf)?;
-    if !all_passed {
+    if !pass_over(streams, size - part, buf)? {
         return broken(streams, k);
     }
     say(streams, b"file ", k)?;

@@ -138,6 +138,7 @@ fn inner_ceiling(sub: Subsystem) -> u64
     let mut block = [[0u32; LINE]; BLOCK];
     lay_out_subsystem(sub, &mut block);
     let ceiling = holding::inner_ceiling(&block, 1, 0) + 1;
+    // `u64::from` takes no usize.
     ceiling as u64
 }
 

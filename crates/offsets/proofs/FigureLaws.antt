@@ -7,6 +7,7 @@ use mathlib.Core.Bool.{Bool}
 use mathlib.Core.List.{List, [], ◌∷◌, ◌++◌, flat_map}
 use lib.ListN.{length}
 use Rattle.lists.specs.Range.{up_to}
+use Rattle.table.specs.Limits.{most}
 use Rattle.row.specs.declared.Row.{Row}
 use Rattle.row.specs.Row.{reported}
 use Rattle.report.specs.declared.Report.{Report}
@@ -126,6 +127,12 @@ module _ (rows : List Row) (n : ℕ) (eight : length rows ≡ n) where
       (before after : List ℕ) (k : ℕ) → IsPut (flat_map row_bytes (up_to (element_at past_rows rows) n)) before after k →
       IsPut (flat_map number_bytes (flat_map row_figures rows)) before after k
   rows_are_put before after k put = put_the_same _ _ before after k rows_by_index put
+
+-- Eight rows have room where four bytes for each of their figures have.
+pub eight_rows_have_room :
+    (rows : List Row) (free : List ℕ) → length rows ≡ most → number_size * (most * row_count) ≤ length free →
+    length (flat_map row_bytes (up_to (element_at past_rows rows) most)) ≤ length free
+eight_rows_have_room rows free eight h = rows_have_room rows most eight free (omega (arith, h))
 
 pub length_rows : (rows : List Row) (n : ℕ) → length rows ≡ n → length (flat_map number_bytes (flat_map row_figures rows)) ≡ n * (number_size * row_count)
 length_rows rows n e =

@@ -7,9 +7,11 @@ use mathlib.Core.List.{List}
 use mathlib.Core.Option.{Option, none, some}
 use mathlib.Core.Logic.{⊎_elim}
 use lib.Dec.{ltb}
+use Rattle.std.specs.Prelude.{MatchOption, None, Some}
+use Rattle.std.specs.Option.{unwrap_or}
 use borrow.Author.Tests.{lt-ltb, le-ltb, ltb-false}
 use Rattle.lists.specs.Range.{first_such}
-use Rattle.lists.proofs.First.{first_such_here, first_such_next, first_such_over, first_such_means, first_such_none, first_such_ext}
+use Rattle.lists.proofs.First.{first_such_here, first_such_next, first_such_over, first_such_means, first_such_none, first_such_is, first_such_nowhere, first_such_ext}
 use Rattle.lists.proofs.Over.{le_or_lt}
 use Rattle.outer.specs.Interfaces.{InterfacesM, held_at, interfaces_in}
 use Rattle.outer.specs.Parts.{count, holding_of}
@@ -42,6 +44,22 @@ module _ (lines : List (List ℕ)) (n l : ℕ) where
   -- None at all: the last.
   pub ceiling_over : (s : ℕ) → n ≤ s → left_from lines n l s ≡ left_from lines n l 0 → n - 1 ≡ ceiling_in lines n l
   ceiling_over s h e = sym (by_search (sym e ∙ first_such_over (accesses_in lines l) n s h))
+
+  -- As `find` answers: the first that has an access, or the last line where none has.
+  pub ceiling_found :
+      (o : _) →
+      MatchOption o ((k : ℕ) → 0 ≤ k → k < n → held_at lines k l ≤ 0) (λ i. (0 ≤ i) × (i < n) × (0 < held_at lines i l) × ((k : ℕ) → 0 ≤ k → k < i → held_at lines k l ≤ 0)) →
+      unwrap_or o (n - 1) ≡ ceiling_in lines n l
+  unfolding ceiling_in accesses_in
+  ceiling_found None h =
+      sym (ap (number_or (n - 1)) (first_such_nowhere (accesses_in lines l) n 0 (λ k a b. le-ltb 0 (held_at lines k l) (h k a (omega arith)))))
+  ceiling_found (Some i) h =
+      sym (ap (number_or (n - 1)) (first_such_is (accesses_in lines l) n 0 i (record {
+        from = h.0;
+        within = omega (arith, h.1);
+        passes = lt-ltb 0 (held_at lines i l) h.2;
+        before = λ k a b. le-ltb 0 (held_at lines k l) (h.3 k a b);
+      })))
 
   -- It is one of the lines.
   pub ceiling_listed : 1 ≤ n → ceiling_in lines n l < n

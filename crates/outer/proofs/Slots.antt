@@ -1,6 +1,7 @@
 -- The parts of interfaces that lines of numbers hold are the slots of the lines, as far as the counts go. Assumes nothing.
-use Prim.Native.Nat.{ℕ, ◌+◌, ◌<◌, ◌≤◌}
+use Prim.Native.Nat.{ℕ, ◌+◌, ◌^◌, ◌<◌, ◌≤◌}
 use native.Mathlib.Nat.{le_trans}
+use native.Mathlib.Omega.{arith}
 use mathlib.Core.Path.{◌≡◌, refl, ap, ap₂, ◌∙◌}
 use mathlib.Core.List.{List, []}
 use lib.ListN.{get_or, set}
@@ -66,6 +67,14 @@ module _ (n m : ℕ) (lines : List (List ℕ)) where
   cost_small_of d s h =
       let k : s < count (interfaces_in n m lines) = rw count_of h in
       le_trans (d.fits s k) (d.period_small s k)
+
+-- Budget and largest holding time of a slot may be asked for, and their sum fits.
+pub cost_asked : (n m : ℕ) (lines : List (List ℕ)) → Sound (interfaces_in n m lines) → (s : ℕ) → s < n → (s < most) × (m ≤ most) × (budget_at lines s + largest_to (held_at lines s) m < 2 ^ 32)
+cost_asked n m lines d s h = (
+  omega (arith, h, few_of n m lines d),
+  few_resources_of n m lines d,
+  omega (arith, cost_of_slot n m lines s h, cost_small_of n m lines d s h),
+)
 
 -- Interfaces from what is written on their lines, for whoever writes them. One line, from its numbers.
 pub interface_is : (m : ℕ) (lines : List (List ℕ)) (s : ℕ) {p q : ℕ} (f : ℕ → ℕ) → period_at lines s ≡ p → budget_at lines s ≡ q → ((l : ℕ) → l < m → held_at lines s l ≡ f l) → interface_at m lines s ≡ record { period = p; budget = q; holdings = up_to f m }

@@ -1,10 +1,10 @@
 // Outer ceilings, and what the rows of all subsystems share: the loads that subsystems are to each other.
-ghost use Rattle.std.specs.Prelude.{◌≡◌, ℕ, ◌-◌, ◌<◌, ◌≤◌, length, get_or, take};
+ghost use Rattle.std.specs.Prelude.{◌≡◌, ℕ, ◌+◌, ◌-◌, ◌^◌, ◌<◌, ◌≤◌, length, get_or, take};
 ghost use Rattle.lists.specs.Range.{largest_to, padded};
 ghost use Rattle.least.specs.Share.{Fitting};
 ghost use Rattle.least.specs.Search.{Loads};
 ghost use Rattle.table.specs.Limits.{most};
-ghost use Rattle.outer.specs.Interfaces.{period_at, held_at, interfaces_in};
+ghost use Rattle.outer.specs.Interfaces.{period_at, budget_at, held_at, interfaces_in};
 ghost use Rattle.outer.specs.Parts.{cost_of};
 ghost use Rattle.outer.specs.Blocked.{ceiling_in};
 ghost use Rattle.outer.specs.Common.{common_of};
@@ -30,6 +30,7 @@ pub(crate) fn largest_holding(lines: &[[u32; WIDTH]; Table::MOST], s: usize, m: 
     requires { (s < most) × (m ≤ most) }
     ensures { result ≡ largest_to (held_at lines.now s) m }
 {
+    // A loop, since the largest of no holding times is 0, which `max` of a chain leaves out.
     let mut best: u32 = 0;
     for l in 0..m {
         best = best.max(held(lines, s, l));
@@ -42,12 +43,20 @@ pub(crate) fn outer_ceiling(lines: &[[u32; WIDTH]; Table::MOST], n: usize, l: us
     requires { (1 ≤ n) × (n ≤ most) × (l < most) }
     ensures { result ≡ ceiling_in lines.now n l }
 {
+    (0..n).find(|s| 0 < held(lines, *s, l)).unwrap_or(n - 1)
+}
+
+// An array of the first n values, and `empty` in the slots past them.
+fn filled<T: Copy, F: Fn(usize) -> T>(n: usize, empty: T, value: F) -> [T; Table::MOST]
+    requires n_le_most { n ≤ most }
+    requires callable { (s : ℕ) → s < n → F.pre value s }
+    ensures { (f : ℕ → T) → ((s : ℕ) (x : T) → s < n → F.post value s x → x ≡ f s) → result ≡ padded f empty most n }
+{
+    let mut slots = [empty; Table::MOST];
     for s in 0..n {
-        if 0 < held(lines, s, l) {
-            return s;
-        }
+        slots[s] = value(s);
     }
-    n - 1
+    slots
 }
 
 // The period of each of n subsystems.
@@ -55,11 +64,15 @@ fn periods_of(lines: &[[u32; WIDTH]; Table::MOST], n: usize) -> [u32; Table::MOS
     requires { n ≤ most }
     ensures { result ≡ padded (period_at lines.now) 0 most n }
 {
-    let mut periods = [0u32; Table::MOST];
-    for s in 0..n {
-        periods[s] = period(lines, s);
-    }
-    periods
+    filled(n, 0, |s| period(lines, s))
+}
+
+// Q(s) + X(s).
+fn cost(lines: &[[u32; WIDTH]; Table::MOST], s: usize, m: usize) -> u32
+    requires { (s < most) × (m ≤ most) × (budget_at lines.now s + largest_to (held_at lines.now s) m < 2 ^ 32) }
+    ensures { result ≡ budget_at lines.now s + largest_to (held_at lines.now s) m }
+{
+    budget(lines, s) + largest_holding(lines, s, m)
 }
 
 // Budget and largest holding time of each subsystem, together.
@@ -67,11 +80,7 @@ fn costs_of(lines: &[[u32; WIDTH]; Table::MOST], n: usize, m: usize) -> [u32; Ta
     requires { Sound (interfaces_in n m lines.now) }
     ensures { result ≡ padded (cost_of (interfaces_in n m lines.now)) 0 most n }
 {
-    let mut costs = [0u32; Table::MOST];
-    for s in 0..n {
-        costs[s] = budget(lines, s) + largest_holding(lines, s, m);
-    }
-    costs
+    filled(n, 0, |s| cost(lines, s, m))
 }
 
 // What each of n subsystems leaves free of its period.
@@ -80,11 +89,7 @@ fn frees_of(periods: [u32; Table::MOST], costs: [u32; Table::MOST], n: usize) ->
     requires by_index { (t : ℕ) → t < n → get_or costs t 0 ≤ get_or periods t 0 }
     ensures { result ≡ padded (λ t. get_or periods t 0 - get_or costs t 0) 0 most n }
 {
-    let mut frees = [0u32; Table::MOST];
-    for s in 0..n {
-        frees[s] = periods[s] - costs[s];
-    }
-    frees
+    filled(n, 0, |s| periods[s] - costs[s])
 }
 
 // The outer ceiling of each of m resources.
@@ -92,11 +97,7 @@ fn ceilings_of(lines: &[[u32; WIDTH]; Table::MOST], n: usize, m: usize) -> [usiz
     requires { (1 ≤ n) × (n ≤ most) × (m ≤ most) }
     ensures { result ≡ padded (ceiling_in lines.now n) 0 most m }
 {
-    let mut ceilings = [0usize; Table::MOST];
-    for l in 0..m {
-        ceilings[l] = outer_ceiling(lines, n, l);
-    }
-    ceilings
+    filled(m, 0, |l| outer_ceiling(lines, n, l))
 }
 
 // What the rows of these interfaces share.

@@ -43,7 +43,8 @@ pub fn print_text<W: Write>(out: &mut W, file: &[u8]) -> io::Result<()>
     print_text_in(out, file, &mut grid, &mut buf)
 }
 
-// Reads until the space is full or the input ends, and gives how many bytes came. They stand at the space's start.
+// Reads until the space is full or the input ends, and gives how many bytes came. They stand at the space's start. `read_exact`
+// does not say how many came before the end, so the reads are made here.
 pub fn read_up_to<R: Read>(input: &mut R, space: &mut [u8]) -> io::Result<usize>
     ensures within { IfOk result (λ n. n ≤ length space.old) }
     ensures bytes { IfOk result (λ n. Consumes (R.remaining input.old) (R.remaining input.new) (take n space.new)) }

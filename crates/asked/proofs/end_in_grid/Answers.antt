@@ -12,35 +12,35 @@ use Rattle.asked.specs.Jobs.{end_of}
 use Rattle.rows.proofs.SoundLaws.{count_of_interfaces}
 use Rattle.rows.proofs.InterfaceLaws.{sound_lines}
 use Rattle.asked.proofs.JobsLaws.{refused_ends, subsystem_0, past_subsystems_lem, ends_in}
+use Rattle.asked.proofs.end_in_grid.Goals.{then-s-eq0-via-then-s-eq0, then-s-eq0-via-else-s-eq0+then-n-s}
 use Rattle.asked.proofs.end_in_grid.Goals as goal
 
 pub returns-in_default : goal.returns-in_default
 returns-in_default c =
-    refused_ends _ c.args.k c.args.l c.args.s c.judge_grid-judged.ensures.value c.in_default.is
+    refused_ends _ c.args.k c.args.l c.args.s c.judge_grid.ensures.value c.in_default.is
 
 pub returns-then-s-eq0 : goal.returns-then-s-eq0
 returns-then-s-eq0 c =
-    subsystem_0 _ c.args.k c.args.l c.judge_grid-judged.ensures.value c.in-Admitted.is c.args.s c.if-s-eq0.true
-
-pub returns-then-n-s : goal.returns-then-n-s
-returns-then-n-s c =
-    past_subsystems_lem _ c.args.k c.args.l c.judge_grid-judged.ensures.value c.in-Admitted.is c.args.s (omega (arith, count_of_interfaces (system_in c.args.n c.args.m c.args.grid.now), count_of_grid c.args.n c.args.m c.args.grid.now, c.if-n-s.true))
+    (elim c.then-s-eq0.branch [
+      | then-s-eq0-via-then-s-eq0 w ↦ subsystem_0 _ c.args.k c.args.l c.judge_grid.ensures.value c.in-Admitted.is c.args.s w.if-s-eq0.true
+      | then-s-eq0-via-else-s-eq0+then-n-s w ↦ past_subsystems_lem _ c.args.k c.args.l c.judge_grid.ensures.value c.in-Admitted.is c.args.s (omega (arith, count_of_interfaces (system_in c.args.n c.args.m c.args.grid.now), count_of_grid c.args.n c.args.m c.args.grid.now, w.if-n-s.true))
+    ])
 
 pub interfaces_of-requires : goal.interfaces_of-requires
 interfaces_of-requires c =
-    record { sound_system = admitted_is_sound _ (sym c.judge_grid-judged.ensures.value ∙ c.in-Admitted.is); held_in = c.judge_grid-judged.ensures.held_in c.in-Admitted.is; lines_len = refl }
+    record { sound_system = admitted_is_sound _ (sym c.judge_grid.ensures.value ∙ c.in-Admitted.is); held_in = c.judge_grid.ensures.held_in c.in-Admitted.is; lines_len = refl }
 
 pub in_common-common-requires : goal.in_common-common-requires
 in_common-common-requires c =
-    sound_lines _ _ _ _ c.interfaces_of.ensures (admitted_is_sound _ (sym c.judge_grid-judged.ensures.value ∙ c.in-Admitted.is))
+    sound_lines _ _ _ _ c.interfaces_of.ensures (admitted_is_sound _ (sym c.judge_grid.ensures.value ∙ c.in-Admitted.is))
 
 pub end_of-requires : goal.end_of-requires
 end_of-requires c =
-    record { sound = sound_lines _ _ _ _ c.interfaces_of.ensures (admitted_is_sound _ (sym c.judge_grid-judged.ensures.value ∙ c.in-Admitted.is)); common_value = c.in_common-common.ensures; s_lt_n = omega (arith, pos_of_ne-zero c.if-s-eq0.false, c.if-n-s.false) }
+    record { sound = sound_lines _ _ _ _ c.interfaces_of.ensures (admitted_is_sound _ (sym c.judge_grid.ensures.value ∙ c.in-Admitted.is)); common_value = c.in_common-common.ensures; s_lt_n = omega (arith, pos_of_ne-zero c.if-s-eq0.false, c.if-n-s.false) }
 
 pub returns : goal.returns
 returns c =
     let sys = system_in c.args.n c.args.m c.args.grid.now in
-    ends_in sys c.args.k c.args.l c.judge_grid-judged.ensures.value c.in-Admitted.is c.args.s (pos_of_ne-zero c.if-s-eq0.false)
+    ends_in sys c.args.k c.args.l c.judge_grid.ensures.value c.in-Admitted.is c.args.s (pos_of_ne-zero c.if-s-eq0.false)
     (omega (arith, count_of_interfaces sys, count_of_grid c.args.n c.args.m c.args.grid.now, c.if-n-s.false))
     (c.end_of.ensures ∙ ap (λ (g : InterfacesM). end_of (view_of g (c.args.s - 1)) c.args.k c.args.l) c.interfaces_of.ensures)

@@ -11,6 +11,7 @@ use Rattle.job.proofs.ViewLaws.{resources_seen}
 use Rattle.job.proofs.LentLaws.{held_lent}
 use Rattle.job.proofs.EndsLaws.{counted_below}
 use Rattle.asked.proofs.JobsLaws.{held_past, no_job, ends_with_budget, never_held, ends_with_resource}
+use Rattle.asked.proofs.end_of.Goals.{then-m-l-via-then-m-l, then-m-l-via-else-m-l+then-held-eq0}
 use Rattle.asked.proofs.end_of.Goals as goal
 
 pub returns-then-jobs_of-k : goal.returns-then-jobs_of-k
@@ -29,29 +30,18 @@ pub returns-then-m-l : goal.returns-then-m-l
 returns-then-m-l c =
     let listed : 1 ≤ c.args.l = pos_of_ne-zero c.if-l-eq0.false in
     let seen : resources (view_of (interfaces_in c.args.n c.args.m c.args.lines.now) c.args.s) ≡ c.args.m = resources_seen (interfaces_in c.args.n c.args.m c.args.lines.now) c.args.s ∙ resources_of c.args.n c.args.m c.args.lines.now in
-    never_held _ c.args.k c.jobs_of.ensures c.if-jobs_of-k.false c.args.l (listed) (held_past _ _ (omega (arith, seen, c.if-m-l.true)))
-
-pub overflow_sub-l : goal.overflow_sub-l
-overflow_sub-l c =
-    let listed : 1 ≤ c.args.l = pos_of_ne-zero c.if-l-eq0.false in
-    listed
+    never_held _ c.args.k c.jobs_of.ensures c.if-jobs_of-k.false c.args.l listed
+    (elim c.then-m-l.branch [
+      | then-m-l-via-then-m-l w ↦ held_past _ _ (omega (arith, seen, w.if-m-l.true))
+      | then-m-l-via-else-m-l+then-held-eq0 w ↦ let slot_held : held_at c.args.lines.now c.args.s (c.args.l - 1) ≡ held (view_of (interfaces_in c.args.n c.args.m c.args.lines.now) c.args.s) (c.args.l - 1) = held_lent c.args.n c.args.m c.args.lines.now c.args.s (c.args.l - 1) c.requires.s_lt_n (omega (arith, listed, w.if-m-l.false)) in
+          sym slot_held ∙ sym w.held.ensures ∙ w.if-held-eq0.true
+    ])
 
 pub held-requires : goal.held-requires
 held-requires c =
     let few : (c.args.n ≤ most) × (c.args.m ≤ most) = (few_of _ _ _ c.requires.sound, few_resources_of _ _ _ c.requires.sound) in
     let listed : 1 ≤ c.args.l = pos_of_ne-zero c.if-l-eq0.false in
     (omega (arith, (few).0, c.requires.s_lt_n), omega (arith, (few).1, listed, c.if-m-l.false))
-
-pub returns-then-held-eq0 : goal.returns-then-held-eq0
-returns-then-held-eq0 c =
-    let listed : 1 ≤ c.args.l = pos_of_ne-zero c.if-l-eq0.false in
-    let slot_held : held_at c.args.lines.now c.args.s (c.args.l - 1) ≡ held (view_of (interfaces_in c.args.n c.args.m c.args.lines.now) c.args.s) (c.args.l - 1) = held_lent c.args.n c.args.m c.args.lines.now c.args.s (c.args.l - 1) c.requires.s_lt_n (omega (arith, listed, c.if-m-l.false)) in
-    never_held _ c.args.k c.jobs_of.ensures c.if-jobs_of-k.false c.args.l (listed) (sym (slot_held) ∙ sym c.held.ensures ∙ c.if-held-eq0.true)
-
-pub overflow_sub-l-2 : goal.overflow_sub-l-2
-overflow_sub-l-2 c =
-    let listed : 1 ≤ c.args.l = pos_of_ne-zero c.if-l-eq0.false in
-    omega (arith, listed)
 
 pub job_end-requires : goal.job_end-requires
 job_end-requires c =

@@ -1,16 +1,14 @@
-use native.Mathlib.Omega.{arith}
+-- `outer::ceilings::outer_ceiling` meets its contract: what `find` answers is the first subsystem with an access. Assumes nothing.
+use Rattle.std.proofs.Common.{◌≤◌, ◌<◌, arith, rules, tests}
+use Rattle.std.proofs.lemmas.Iterator.{first_from_Range}
 use mathlib.Core.Path.{◌∙◌}
-use Rattle.outer.proofs.CeilingLaws.{ceiling_here, ceiling_next, ceiling_over}
+use Rattle.outer.specs.Interfaces.{held_at}
+use Rattle.outer.proofs.CeilingLaws.{ceiling_found}
 use Rattle.outer.proofs.ceilings.outer_ceiling.Goals as goal
-
-pub returns-then-held-gt0 : goal.returns-then-held-gt0
-returns-then-held-gt0 c =
-    ceiling_here c.args.lines.now c.args.n c.args.l c.loop-s.s c.loop-s-test.true c.held.ensures c.if-held-gt0.true c.loop-s.invariant
-
-pub loop-s-preserved : goal.loop-s-preserved
-loop-s-preserved c =
-    ceiling_next c.args.lines.now c.args.n c.args.l c.loop-s.s c.loop-s-test.true c.held.ensures c.if-held-gt0.false ∙ c.loop-s.invariant
 
 pub returns : goal.returns
 returns c =
-    ceiling_over c.args.lines.now c.args.n c.args.l c.loop-s.s (omega arith) c.loop-s.invariant
+    c.unwrap_or.ensures ∙ ceiling_found c.args.lines.now c.args.n c.args.l c.find.result
+    (first_from_Range _ _ _ _ (λ i. 0 < held_at c.args.lines.now i c.args.l) (λ i. held_at c.args.lines.now i c.args.l ≤ 0) c.find.ensures.ran
+    (λ x q k. grind (arith, tests))
+    (λ x q k. (search rules, grind (arith, tests))))
