@@ -31,13 +31,7 @@ pub fn earlier(found: Judged, next: Judged) -> Judged
 pub fn is_first(found: Judged) -> bool
     ensures { result ≡ is_first found }
 {
-    matches!(
-        found,
-        Err(Broken {
-            rule: Rule::Range,
-            ..
-        })
-    )
+    found.is_err_and(|broken| broken.rule == Rule::Range)
 }
 
 // Whether a judgement is a refusal.
