@@ -81,6 +81,9 @@ impl<'a> Asking<'a> {
     // something above the bound. The bound is within reach, or a solution is, and then any bound will do. No solution lies before
     // `start`. `ends` holds the ends of the periods begun by y, and then of those begun by the solution. It goes over all loads in
     // passes, up to one in which none asks: all are ahead then. Two instructions spared at every load are worth more than the last pass.
+    // It and the two below are compiled into their callers, and it goes by a copy of what is asked: so its loops look up nowhere at
+    // which place the slices lie.
+    #[inline]
     fn climb(
         &self,
         n: usize,
@@ -95,9 +98,10 @@ impl<'a> Asking<'a> {
         ensures found { Found self.now.loads.periods.now self.now.loads.costs.now ends.new n (afterwards self.now.loads.periods.now self.now.loads.costs.now n y more) bound result }
         ensures ends_len_unchanged { length ends.new ≡ length ends.old }
     {
+        let asking = *self;
         let mut x = y + more;
         if x < start {
-            x = advanced(&self.loads, n, ends, x, start);
+            x = advanced(&asking.loads, n, ends, x, start);
             if bound < u64::from(x) {
                 return x;
             }
@@ -106,7 +110,7 @@ impl<'a> Asking<'a> {
             let before = x;
             for t in 0..n {
                 if ends[t] < x {
-                    x = self.ask(t, ends, x, bound);
+                    x = asking.ask(t, ends, x, bound);
                     if bound < u64::from(x) {
                         return x;
                     }
@@ -119,6 +123,7 @@ impl<'a> Asking<'a> {
     }
 
     // The least solution after y ticks where it is at most the bound; else something above the bound.
+    #[inline]
     pub fn least_after(
         &self,
         n: usize,
@@ -137,6 +142,7 @@ impl<'a> Asking<'a> {
     }
 
     // The same where the total is known to come down within reach: there is a least solution then, and nothing is compared with a bound.
+    #[inline]
     pub fn least_within(
         &self,
         n: usize,
