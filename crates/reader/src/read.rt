@@ -30,7 +30,13 @@ fn misread_at(answer: FieldAnswer, at: usize) -> Misread
 
 // Reads the n tasks of the subsystem whose field stands at `at` into the block; the block's own line is that field's. Gives
 // the offset behind them.
-fn read_tasks(file: &[u8], at: usize, n: usize, m: usize, block: &mut Block) -> Result<usize, Misread>
+fn read_tasks(
+    file: &[u8],
+    at: usize,
+    n: usize,
+    m: usize,
+    block: &mut Block,
+) -> Result<usize, Misread>
     requires m_le_most { (m ≤ most) × ((n ≤ most) × (n ≡ (head_at file.now at).count)) }
     requires at_in_bounds { (task_place m at 0 ≤ length file.now) × HasLines block.old }
     requires head_line { HeadLine (head_at file.now at) (get_or block.old 0 []) }
@@ -96,6 +102,8 @@ pub fn read_grid(file: &[u8], grid: &mut Grid) -> Result<Head, Misread>
         count: header[1],
         resources: header[2],
     };
-    read_subsystems(file, usize::from(head.count), usize::from(head.resources), grid)?;
+    let n = usize::from(head.count);
+    let m = usize::from(head.resources);
+    read_subsystems(file, n, m, grid)?;
     Ok(head)
 }

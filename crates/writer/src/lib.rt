@@ -15,10 +15,10 @@ ghost use Rattle.stored.specs.Write.{IsPut, write_of, buffer_after};
 
 use crate::put::{put_header, put_subsystem};
 use judge::judge_counts;
-use stored::{Unwritten, WriteAnswer};
 use stored::decode::TASK_START;
 use stored::fields::{HEADER_LENGTH, START, SUBSYSTEM_LENGTH};
 use stored::number::NUMBER;
+use stored::{Unwritten, WriteAnswer};
 use table::Table;
 
 // How many bytes the file of a table has. A subsystem that is counted past the last slot has no tasks.

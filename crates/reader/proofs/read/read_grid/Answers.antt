@@ -28,16 +28,16 @@ pub read_subsystems-requires : goal.read_subsystems-requires
 read_subsystems-requires c =
     let head = header_is_read c.args.file.now _ c.judge_header-answer.ensures _ c.in-Ok.is c.value-header.result.now c.value-header.ensures in
     let counts = counts_in_range c.args.file.now _ c.judge_header-answer.ensures _ c.in-Ok.is in
-    record { n_le_most = (omega (arith, c.from.ensures, head.0, counts.0), c.from.ensures ∙ head.0); m_le_most = (omega (arith, c.from-2.ensures, head.1, counts.1), c.from-2.ensures ∙ head.1); m_in_bounds = (first_subsystem_within c.args.file.now _ c.judge_header-answer.ensures _ c.in-Ok.is _, c.requires) }
+    record { n_le_most = (omega (arith, c.from-n.ensures, head.0, counts.0), c.from-n.ensures ∙ head.0); m_le_most = (omega (arith, c.from-m.ensures, head.1, counts.1), c.from-m.ensures ∙ head.1); m_in_bounds = (first_subsystem_within c.args.file.now _ c.judge_header-answer.ensures _ c.in-Ok.is _, c.requires) }
 
 pub returns-in_err-read_subsystems : goal.returns-in_err-read_subsystems
 returns-in_err-read_subsystems c =
     let head = header_is_read c.args.file.now _ c.judge_header-answer.ensures _ c.in-Ok.is c.value-header.result.now c.value-header.ensures in
     let p = err_from_is_err_and c.from_residual.result c.from_residual.ensures.1 in
     rw (p.1, p.2)
-    (body_stops c.args.file.now _ c.judge_header-answer.ensures _ c.in-Ok.is _ head.0 head.1 _ c.in_err-read_subsystems.field-0.0 (rw (c.from.ensures, c.from-2.ensures, c.in_err-read_subsystems.was) at c.read_subsystems.ensures))
+    (body_stops c.args.file.now _ c.judge_header-answer.ensures _ c.in-Ok.is _ head.0 head.1 _ c.in_err-read_subsystems.field-0.0 (rw (c.from-n.ensures, c.from-m.ensures, c.in_err-read_subsystems.was) at c.read_subsystems.ensures))
 
 pub returns : goal.returns
 returns c =
     let head = header_is_read c.args.file.now _ c.judge_header-answer.ensures _ c.in-Ok.is c.value-header.result.now c.value-header.ensures in
-    body_decides c.args.file.now _ c.judge_header-answer.ensures _ c.in-Ok.is _ head.0 head.1 _ (rw (c.from.ensures, c.from-2.ensures, c.in_ok-read_subsystems.was) at c.read_subsystems.ensures)
+    body_decides c.args.file.now _ c.judge_header-answer.ensures _ c.in-Ok.is _ head.0 head.1 _ (rw (c.from-n.ensures, c.from-m.ensures, c.in_ok-read_subsystems.was) at c.read_subsystems.ensures)
