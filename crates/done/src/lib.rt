@@ -3,19 +3,17 @@
 // is found on the way from job to job and need not be searched for. Every function here is proved, and the crate assumes nothing.
 #![tactic(auto)]
 
-ghost use Rattle.std.specs.Prelude.{◌≡◌, true, ◌+◌, ◌-◌, ◌^◌, ◌≤◌, ◌<◌, length};
+ghost use Rattle.std.specs.Prelude.{◌≡◌, true, ◌+◌, ◌-◌, ◌^◌, ◌≤◌, ◌<◌, length, IfSome};
 ghost use Rattle.table.specs.Limits.{most};
 ghost use Rattle.least.specs.Search.{reach};
-ghost use Rattle.search.specs.After.{Frees};
 ghost use Rattle.job.specs.Ends.{active_period};
 ghost use Rattle.row.specs.Row.{row_for};
-ghost use Rattle.job.specs.Computed.{seen_by};
-ghost use Rattle.job.specs.Sound.{SoundView, FirstEnd};
+ghost use Rattle.job.specs.Seen.{view_in};
+ghost use Rattle.job.specs.Sound.{FirstEnd};
 ghost use Rattle.done.specs.Done.{FirstDone, EndsDone, Alone};
 
-use job::{HORIZON, Job, Own, Worst, worse};
+use job::{HORIZON, Job, Own, Seen, Worst, worse};
 use row::{Row, row_with, row_without};
-use search::least_after;
 use table::Table;
 
 // Whether nothing is held and the active period is not far: the jobs are gone through without further ado.
@@ -25,13 +23,19 @@ pub fn on_the_way(own: Own, cost: u32, far: bool) -> bool
     cost == own.budget && !far
 }
 
-// The resource that is held alone (`lone_resource`), where one is held and the active period is not far; else 0.
-pub fn lone_on_the_way(holdings: &[u32], ceilings: &[usize], own: Own, cost: u32, far: bool) -> u32
+// The resource that is held alone (`lone_resource`), where one is held and the active period is not far.
+pub fn lone_on_the_way(
+    holdings: &[u32],
+    ceilings: &[usize],
+    own: Own,
+    cost: u32,
+    far: bool,
+) -> Option<usize>
     requires { (length holdings.now ≤ length ceilings.now) × (length holdings.now ≤ most) }
-    ensures { 1 ≤ result → Alone holdings.now ceilings.now own.place (result - 1) }
+    ensures { IfSome result (λ l. Alone holdings.now ceilings.now own.place l) }
 {
     if far || cost == own.budget {
-        return 0;
+        return None;
     }
     lone_resource(holdings, ceilings, own.place)
 }
@@ -47,44 +51,33 @@ pub fn nearly_all(own: Own, cost: u32, first: u32, active: u32) -> bool
             <= u64::from(active) * u64::from(own.period - cost)
 }
 
-// The resource that is held, counted from 1, where it is the only one and shuts no higher subsystem out; else 0.
-fn lone_resource(holdings: &[u32], ceilings: &[usize], s: usize) -> u32
+// The resource that is held, where it is the only one and shuts no higher subsystem out.
+fn lone_resource(holdings: &[u32], ceilings: &[usize], s: usize) -> Option<usize>
     requires { (length holdings.now ≤ length ceilings.now) × (length holdings.now ≤ most) }
-    ensures { 1 ≤ result → Alone holdings.now ceilings.now s (result - 1) }
+    ensures { IfSome result (λ l. Alone holdings.now ceilings.now s l) }
 {
-    let mut lone: u32 = 0;
+    let mut lone: Option<usize> = None;
     for (l, &held) in holdings.iter().enumerate() {
         if held != 0 {
-            if lone != 0 || ceilings[l] != s {
-                return 0;
+            if lone.is_some() || ceilings[l] != s {
+                return None;
             }
-            lone = l as u32 + 1;
+            lone = Some(l);
         }
     }
     lone
 }
 
-// The row of a subsystem whose jobs end when they are done, all with the same resource, from where job 0 is done. `release` is that of the
-// next job. The holding times and the ceilings stand for the contract's sake.
-pub fn row_by_jobs(
-    periods: &[u32],
-    costs: &[u32],
-    frees: &[u32],
-    holdings: &[u32],
-    ceilings: &[usize],
-    own: Own,
-    first: u32,
-    firsts: [u32; Table::MOST],
-    resource: u32,
-) -> Row
-    requires sound_view { SoundView (seen_by periods.now costs.now holdings.now ceilings.now own) }
-    requires ends_done { EndsDone (seen_by periods.now costs.now holdings.now ceilings.now own) resource }
-    requires first_done { FirstDone (seen_by periods.now costs.now holdings.now ceilings.now own) firsts first }
-    requires frees { Frees periods.now costs.now frees.now (own.place + 1) }
-    ensures { result ≡ row_for (seen_by periods.now costs.now holdings.now ceilings.now own) own.failing (active_period (seen_by periods.now costs.now holdings.now ceilings.now own)) }
+// The row of a subsystem whose jobs end when they are done, all with the same resource, counted from 1, 0 for none, from where job 0 is
+// done. `release` is that of the next job.
+pub fn row_by_jobs(seen: &Seen, first: u32, firsts: [u32; Table::MOST], resource: u32) -> Row
+    requires ends_done { EndsDone (view_in seen.now) resource }
+    requires first_done { FirstDone (view_in seen.now) firsts first }
+    ensures { result ≡ row_for (view_in seen.now) seen.now.own.failing (active_period (view_in seen.now)) }
 {
+    let own = seen.own;
     let s = own.place;
-    let more = costs[s];
+    let more = seen.asking.loads.costs[s];
     let mut worst = Worst {
         response: first,
         job: 0,
@@ -95,7 +88,7 @@ pub fn row_by_jobs(
     let mut k: u32 = 0;
     let mut release = own.period;
     while release < end {
-        end = least_after(periods, costs, frees, s, &mut ends, end, more, 0, HORIZON);
+        end = seen.asking.least_after(s, &mut ends, end, more, 0, HORIZON);
         if HORIZON < end {
             return row_without(own, more);
         }
@@ -113,32 +106,19 @@ pub fn row_by_jobs(
 }
 
 // The same from the end of the first budget, for a subsystem that holds one resource alone: job 0 is done with what it may hold besides.
-pub fn row_alone(
-    periods: &[u32],
-    costs: &[u32],
-    frees: &[u32],
-    holdings: &[u32],
-    ceilings: &[usize],
-    own: Own,
-    first: u32,
-    firsts: [u32; Table::MOST],
-    lone: u32,
-) -> Row
-    requires sound_view { SoundView (seen_by periods.now costs.now holdings.now ceilings.now own) }
-    requires le_lone { (1 ≤ lone) × Alone holdings.now ceilings.now own.place (lone - 1) }
-    requires first_end { FirstEnd (seen_by periods.now costs.now holdings.now ceilings.now own) firsts first }
-    requires frees { Frees periods.now costs.now frees.now (own.place + 1) }
-    ensures { result ≡ row_for (seen_by periods.now costs.now holdings.now ceilings.now own) own.failing (active_period (seen_by periods.now costs.now holdings.now ceilings.now own)) }
+pub fn row_alone(seen: &Seen, first: u32, firsts: [u32; Table::MOST], lone: usize) -> Row
+    requires alone { Alone seen.now.holdings.now seen.now.ceilings.now seen.now.own.place lone }
+    requires first_end { FirstEnd (view_in seen.now) firsts first }
+    ensures { result ≡ row_for (view_in seen.now) seen.now.own.failing (active_period (view_in seen.now)) }
 {
+    let own = seen.own;
     let s = own.place;
-    let cost = costs[s];
+    let cost = seen.asking.loads.costs[s];
     let held = cost - own.budget;
     let mut ends = firsts;
-    let done = least_after(periods, costs, frees, s, &mut ends, first, held, 0, HORIZON);
+    let done = seen.asking.least_after(s, &mut ends, first, held, 0, HORIZON);
     if HORIZON < done {
         return row_without(own, cost);
     }
-    row_by_jobs(
-        periods, costs, frees, holdings, ceilings, own, done, ends, lone,
-    )
+    row_by_jobs(seen, done, ends, lone as u32 + 1)
 }

@@ -3,12 +3,11 @@
 // is proved, and the crate assumes nothing. Indices count from 0; document 01 counts from 1.
 #![tactic(auto)]
 
-ghost use Rattle.std.specs.Prelude.{◌≡◌, ℕ, ◌+◌, ◌-◌, ◌≤◌, ◌<◌};
+ghost use Rattle.std.specs.Prelude.{◌≡◌, ℕ, ◌+◌, ◌≤◌, ◌<◌};
 ghost use Rattle.std.proofs.Math.Option.{none, some};
 ghost use Rattle.least.specs.Demand.{total};
-ghost use Rattle.least.specs.Search.{Loads, reach, Starts};
+ghost use Rattle.least.specs.Search.{Starts};
 ghost use Rattle.search.specs.After.{Frees};
-ghost use Rattle.table.specs.Limits.{most};
 ghost use Rattle.least.specs.Share.{Fitting};
 ghost use Rattle.outer.specs.Interfaces.{interfaces_in};
 ghost use Rattle.row.specs.declared.Outcome.TheVariants.{None};
@@ -16,52 +15,38 @@ ghost use Rattle.job.specs.Ends.{active_period};
 ghost use Rattle.row.specs.Row.{judged, row_for, row_of};
 ghost use Rattle.outer.specs.Blocking.{blocking};
 ghost use Rattle.outer.specs.Common.{Lent};
-ghost use Rattle.job.specs.Computed.{seen_by};
+ghost use Rattle.job.specs.Seen.{view_in};
 ghost use Rattle.outer.specs.Sound.{Sound};
-ghost use Rattle.job.specs.Sound.{SoundView, FirstEnd, Active};
+ghost use Rattle.job.specs.Sound.{FirstEnd, Active};
 
 use done::{lone_on_the_way, nearly_all, on_the_way, row_alone, row_by_jobs};
-use job::{HORIZON, Own};
-use least::{REACH, demand_in, round_up, spare_of, standing};
+use job::{HORIZON, Own, Seen};
+use least::{REACH, round_up, standing};
 use outer::interfaces::{WIDTH, budget, period};
 use outer::leading::leading;
 use responses::largest_response;
 use row::{Row, row_with, row_without};
-use search::least_after;
+use search::Asking;
 use table::Table;
 
 // The row with an active period.
-fn active_row(
-    periods: &[u32],
-    costs: &[u32],
-    frees: &[u32],
-    holdings: &[u32],
-    ceilings: &[usize],
-    own: Own,
-    active: u32,
-    first: u32,
-    ends: [u32; Table::MOST],
-) -> Row
-    requires sound_view { SoundView (seen_by periods.now costs.now holdings.now ceilings.now own) }
-    requires own_value { active_period (seen_by periods.now costs.now holdings.now ceilings.now own) ≡ some active }
-    requires first_end { FirstEnd (seen_by periods.now costs.now holdings.now ceilings.now own) ends first }
-    requires frees { Frees periods.now costs.now frees.now (own.place + 1) }
-    ensures { result ≡ row_for (seen_by periods.now costs.now holdings.now ceilings.now own) own.failing (some active) }
+fn active_row(seen: &Seen, active: u32, first: u32, ends: [u32; Table::MOST]) -> Row
+    requires own_value { active_period (view_in seen.now) ≡ some active }
+    requires first_end { FirstEnd (view_in seen.now) ends first }
+    ensures { result ≡ row_for (view_in seen.now) seen.now.own.failing (some active) }
 {
-    let s = own.place;
+    let own = seen.own;
     let n = round_up(active, own.period);
-    let worst = largest_response(
-        periods, costs, frees, holdings, ceilings, own, n, active, first, ends,
-    );
-    row_with(own, costs[s], active, n, worst)
+    let worst = largest_response(seen, n, active, first, ends);
+    row_with(own, seen.asking.loads.costs[own.place], active, n, worst)
 }
 
 // Whether the active period may be far: the first budget ends some periods late, or it ends after the next release and the shares that the
 // subsystems have of every tick, with what each asks for at once, do not bring the active period within the horizon. Only time hangs on
 // the answer: a way from job to job would be long then, and in vain where there is no active period.
-fn may_be_far(periods: &[u32], costs: &[u32], own: Own, first: u32) -> bool
-    requires { Loads periods.now costs.now (own.place + 1) × (own.place < most) }
-{
+fn may_be_far(seen: &Seen, first: u32) -> bool {
+    let own = &seen.own;
+    let loads = &seen.asking.loads;
     if first <= own.period {
         return false;
     }
@@ -69,137 +54,91 @@ fn may_be_far(periods: &[u32], costs: &[u32], own: Own, first: u32) -> bool
         return true;
     }
     let n = own.place + 1;
-    let spare = spare_of(periods, costs, n);
+    let spare = loads.spare_of(n);
     if spare == 0 {
         return true;
     }
-    let once = u64::from(own.blocking) + demand_in(periods, costs, n, 1);
+    let once = u64::from(own.blocking) + loads.demand_in(n, 1);
     u64::from(REACH) <= once || HORIZON < standing(once as u32, spare)
 }
 
 // Where the search for the active period may stand: what blocks reaches as far as the subsystems leave free of every tick. Only where it
 // may be far is that worth knowing. 0 stands for no such number.
-fn active_start(periods: &[u32], costs: &[u32], own: Own, far: bool) -> u32
-    requires { Loads periods.now costs.now (own.place + 1) × (own.place < most) × (own.blocking < reach) }
-    ensures { (x : ℕ) → Starts (total periods.now costs.now (own.place + 1) own.blocking) x result }
+fn active_start(seen: &Seen, far: bool) -> u32
+    ensures { (x : ℕ) → Starts (total seen.now.asking.loads.periods.now seen.now.asking.loads.costs.now (seen.now.own.place + 1) seen.now.own.blocking) x result }
 {
     if !far {
         return 0;
     }
-    let spare = spare_of(periods, costs, own.place + 1);
+    let spare = seen.asking.loads.spare_of(seen.own.place + 1);
     if spare == 0 {
         return 0;
     }
-    standing(own.blocking, spare)
+    standing(seen.own.blocking, spare)
 }
 
 // The active period, where it is at most the horizon; else something above it. The search goes on from the first budget end: by
 // then what blocks and the higher subsystems' periods are waited for in any case, and so are the subsystem's own that have begun.
-fn active_from(
-    periods: &[u32],
-    costs: &[u32],
-    frees: &[u32],
-    holdings: &[u32],
-    ceilings: &[usize],
-    own: Own,
-    first: u32,
-    ends: [u32; Table::MOST],
-    far: bool,
-) -> u32
-    requires sound_view { SoundView (seen_by periods.now costs.now holdings.now ceilings.now own) }
-    requires first_end { FirstEnd (seen_by periods.now costs.now holdings.now ceilings.now own) ends first }
-    requires frees { Frees periods.now costs.now frees.now (own.place + 1) }
-    ensures { Active (seen_by periods.now costs.now holdings.now ceilings.now own) result }
+fn active_from(seen: &Seen, first: u32, ends: [u32; Table::MOST], far: bool) -> u32
+    requires first_end { FirstEnd (view_in seen.now) ends first }
+    ensures { Active (view_in seen.now) result }
 {
+    let own = &seen.own;
     let s = own.place;
     let begun = round_up(first, own.period);
     let mut reached = ends;
     reached[s] = begun * own.period;
-    let more = begun * costs[s] - own.budget;
-    let start = active_start(periods, costs, own, far);
-    least_after(
-        periods,
-        costs,
-        frees,
-        s + 1,
-        &mut reached,
-        first,
-        more,
-        start,
-        HORIZON,
-    )
+    let more = begun * seen.asking.loads.costs[s] - own.budget;
+    let start = active_start(seen, far);
+    seen.asking.least_after(s + 1, &mut reached, first, more, start, HORIZON)
 }
 
 // The row of a subsystem whose active period is searched for before its jobs, from the first budget end. Where nothing is held and nearly all
 // jobs have to be looked at all the same, they are gone through as on the way.
-fn row_searched(
-    periods: &[u32],
-    costs: &[u32],
-    frees: &[u32],
-    held: &[u32],
-    ceilings: &[usize],
-    own: Own,
-    first: u32,
-    ends: [u32; Table::MOST],
-    far: bool,
-) -> Row
-    requires sound_view { SoundView (seen_by periods.now costs.now held.now ceilings.now own) }
-    requires first_end { FirstEnd (seen_by periods.now costs.now held.now ceilings.now own) ends first }
-    requires frees { Frees periods.now costs.now frees.now (own.place + 1) }
-    ensures { result ≡ row_for (seen_by periods.now costs.now held.now ceilings.now own) own.failing (active_period (seen_by periods.now costs.now held.now ceilings.now own)) }
+fn row_searched(seen: &Seen, first: u32, ends: [u32; Table::MOST], far: bool) -> Row
+    requires first_end { FirstEnd (view_in seen.now) ends first }
+    ensures { result ≡ row_for (view_in seen.now) seen.now.own.failing (active_period (view_in seen.now)) }
 {
-    let s = own.place;
-    let cost = costs[s];
-    let active = active_from(periods, costs, frees, held, ceilings, own, first, ends, far);
+    let own = seen.own;
+    let cost = seen.asking.loads.costs[own.place];
+    let active = active_from(seen, first, ends, far);
     if HORIZON < active {
         return row_without(own, cost);
     }
     if nearly_all(own, cost, first, active) {
-        return row_by_jobs(periods, costs, frees, held, ceilings, own, first, ends, 0);
+        return row_by_jobs(seen, first, ends, 0);
     }
-    active_row(
-        periods, costs, frees, held, ceilings, own, active, first, ends,
-    )
+    active_row(seen, active, first, ends)
 }
 
 // The row from what the subsystem has before it. Only the first `fits` subsystems ask for no more than every tick has; for one
 // behind them nothing is searched. Else the first budget end is. From there, where nothing is held, or one resource alone, the active
 // period is found on the way from job to job, unless it may be far: then one search passes over them all, and tells whether there is
 // one and whether most jobs are settled early.
-fn row_seen(
-    periods: &[u32],
-    costs: &[u32],
-    frees: &[u32],
-    held: &[u32],
-    ceilings: &[usize],
-    own: Own,
-    fits: usize,
-) -> Row
-    requires sound_view { SoundView (seen_by periods.now costs.now held.now ceilings.now own) }
-    requires own_value { fits ≤ own.place → active_period (seen_by periods.now costs.now held.now ceilings.now own) ≡ none }
-    requires frees { Frees periods.now costs.now frees.now (own.place + 1) }
-    ensures { result ≡ row_for (seen_by periods.now costs.now held.now ceilings.now own) own.failing (active_period (seen_by periods.now costs.now held.now ceilings.now own)) }
+fn row_seen(seen: &Seen, fits: usize) -> Row
+    requires own_value { fits ≤ seen.now.own.place → active_period (view_in seen.now) ≡ none }
+    ensures { result ≡ row_for (view_in seen.now) seen.now.own.failing (active_period (view_in seen.now)) }
 {
+    let own = seen.own;
     let s = own.place;
-    let cost = costs[s];
+    let cost = seen.asking.loads.costs[s];
     if fits <= s {
         return row_without(own, cost);
     }
     let mut ends = [0u32; Table::MOST];
     let ahead = own.blocking + own.budget;
-    let first = least_after(periods, costs, frees, s, &mut ends, 0, ahead, 0, HORIZON);
+    let first = seen.asking.least_after(s, &mut ends, 0, ahead, 0, HORIZON);
     if HORIZON < first {
         return row_without(own, cost);
     }
-    let far = may_be_far(periods, costs, own, first);
-    let res = lone_on_the_way(held, ceilings, own, cost, far);
-    if res != 0 {
-        return row_alone(periods, costs, frees, held, ceilings, own, first, ends, res);
+    let far = may_be_far(seen, first);
+    if let Some(lone) = lone_on_the_way(seen.holdings, seen.ceilings, own, cost, far) {
+        return row_alone(seen, first, ends, lone);
     }
     if on_the_way(own, cost, far) {
-        return row_by_jobs(periods, costs, frees, held, ceilings, own, first, ends, 0);
+        return row_by_jobs(seen, first, ends, 0);
     }
-    row_searched(periods, costs, frees, held, ceilings, own, first, ends, far)
+    row_searched(seen, first, ends, far)
 }
 
 // The row of subsystem s, with the number of its first failing task, 0 for none. What all rows share is lent, since a struct would be
@@ -208,9 +147,7 @@ pub fn row_of(
     lines: &[[u32; WIDTH]; Table::MOST],
     n: usize,
     m: usize,
-    periods: &[u32],
-    costs: &[u32],
-    frees: &[u32],
+    asking: &Asking,
     ceilings: &[usize],
     blocked: u32,
     fits: usize,
@@ -218,9 +155,9 @@ pub fn row_of(
     failing: u32,
 ) -> Row
     requires sound { Sound (interfaces_in n m lines.now) × (s < n) }
-    requires lent { Lent (interfaces_in n m lines.now) periods.now costs.now ceilings.now }
-    requires frees { Frees periods.now costs.now frees.now (s + 1) }
-    requires blocked_value { (blocked ≡ blocking (interfaces_in n m lines.now) s) × Fitting periods.now costs.now n fits }
+    requires lent { Lent (interfaces_in n m lines.now) asking.now.loads.periods.now asking.now.loads.costs.now ceilings.now }
+    requires frees { Frees asking.now.loads.periods.now asking.now.loads.costs.now asking.now.frees.now (s + 1) }
+    requires blocked_value { (blocked ≡ blocking (interfaces_in n m lines.now) s) × Fitting asking.now.loads.periods.now asking.now.loads.costs.now n fits }
     ensures { result ≡ row_of (interfaces_in n m lines.now) s failing }
 {
     let held = leading(lines, s, ceilings);
@@ -231,5 +168,11 @@ pub fn row_of(
         blocking: blocked,
         failing,
     };
-    row_seen(periods, costs, frees, &held[..m], ceilings, own, fits)
+    let seen = Seen {
+        asking: *asking,
+        holdings: &held[..m],
+        ceilings,
+        own,
+    };
+    row_seen(&seen, fits)
 }

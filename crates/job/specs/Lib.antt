@@ -6,3 +6,4 @@ pub mod JobCount
 pub mod Response
 pub mod Computed
 pub mod Sound
+pub mod Seen

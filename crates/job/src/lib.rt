@@ -2,6 +2,8 @@
 // active period, its jobs and their ends are defined in specs/. Every function here is proved, and the crate assumes nothing.
 #![tactic(auto)]
 
+mod seen;
+
 ghost use Rattle.std.specs.Prelude.{◌≡◌, cond, ◌+◌, ◌≤◌, ltb, length};
 ghost use Rattle.least.specs.Demand.{total};
 ghost use Rattle.least.specs.Search.{IsLeast};
@@ -9,10 +11,13 @@ ghost use Rattle.search.specs.After.{Frees, EndsAt, afterwards};
 ghost use Rattle.table.specs.Limits.{most};
 ghost use Rattle.job.specs.Response.{response_with};
 ghost use Rattle.job.specs.Ends.{budget_end};
-ghost use Rattle.job.specs.Computed.{seen_by, BudgetOver, best_of, job_of};
-ghost use Rattle.job.specs.Sound.{SoundView, Counted};
+ghost use Rattle.job.specs.Computed.{BudgetOver, best_of, job_of};
+ghost use Rattle.job.specs.Seen.{view_in};
+ghost use Rattle.job.specs.Sound.{Counted};
 
-use search::least_within;
+pub use crate::seen::Seen;
+
+use search::Asking;
 use table::Table;
 
 // The last tick at which an active period may end, and so the last at which any search does.
@@ -81,58 +86,36 @@ pub fn worse(worst: Worst, job: Job, k: u32) -> Worst
 // The response with one resource of a job that is released at `release` and whose budget ends at `end`: the job ends after
 // `held` ticks more and whatever the first n loads ask for meanwhile.
 fn response_with(
-    periods: &[u32],
-    costs: &[u32],
-    frees: &[u32],
+    asking: &Asking,
     n: usize,
     ends: [u32; Table::MOST],
     end: u32,
     held: u32,
     release: u32,
 ) -> u32
-    requires ends_at { EndsAt periods.now ends n end × (most ≤ length ends) }
-    requires budget_over { BudgetOver periods.now costs.now n end held }
+    requires ends_at { EndsAt asking.now.loads.periods.now ends n end × (most ≤ length ends) }
+    requires budget_over { BudgetOver asking.now.loads.periods.now asking.now.loads.costs.now n end held }
     requires release_le_end { release ≤ end }
-    requires frees { Frees periods.now costs.now frees.now n }
-    ensures { IsLeast (total periods.now costs.now n (afterwards periods.now costs.now n end held)) (result + release) }
+    requires frees { Frees asking.now.loads.periods.now asking.now.loads.costs.now asking.now.frees.now n }
+    ensures { IsLeast (total asking.now.loads.periods.now asking.now.loads.costs.now n (afterwards asking.now.loads.periods.now asking.now.loads.costs.now n end held)) (result + release) }
 {
     let mut reached = ends;
-    least_within(periods, costs, frees, n, &mut reached, end, held, 0) - release
+    asking.least_within(n, &mut reached, end, held, 0) - release
 }
 
 // The largest response of job k, whose budget ends at `end`, over the resources that are held, and the lowest of these that has it.
-fn best_response(
-    periods: &[u32],
-    costs: &[u32],
-    frees: &[u32],
-    holdings: &[u32],
-    ceilings: &[usize],
-    own: Own,
-    k: u32,
-    end: u32,
-    ends: [u32; Table::MOST],
-) -> Best
-    requires sound_view { SoundView (seen_by periods.now costs.now holdings.now ceilings.now own) }
-    requires counted { Counted (seen_by periods.now costs.now holdings.now ceilings.now own) k }
-    requires end_value { end ≡ budget_end (seen_by periods.now costs.now holdings.now ceilings.now own) k }
-    requires ends_at { EndsAt periods.now ends own.place end × (most ≤ length ends) }
-    requires frees { Frees periods.now costs.now frees.now (own.place + 1) }
-    ensures { result ≡ best_of (response_with (seen_by periods.now costs.now holdings.now ceilings.now own) k) (length holdings.now) }
+fn best_response(seen: &Seen, k: u32, end: u32, ends: [u32; Table::MOST]) -> Best
+    requires counted { Counted (view_in seen.now) k }
+    requires end_value { end ≡ budget_end (view_in seen.now) k }
+    requires ends_at { EndsAt seen.now.asking.loads.periods.now ends seen.now.own.place end × (most ≤ length ends) }
+    ensures { result ≡ best_of (response_with (view_in seen.now) k) (length seen.now.holdings.now) }
 {
     let mut best = Best { value: 0, at: 0 };
-    for (l, &held) in holdings.iter().enumerate() {
+    for (l, &held) in seen.holdings.iter().enumerate() {
         if held != 0 {
-            let release = k * own.period;
-            let response = response_with(
-                periods,
-                costs,
-                frees,
-                ceilings[l],
-                ends,
-                end,
-                held,
-                release,
-            );
+            let release = k * seen.own.period;
+            let n = seen.ceilings[l];
+            let response = response_with(&seen.asking, n, ends, end, held, release);
             best = better(best, response, l);
         }
     }
@@ -140,33 +123,21 @@ fn best_response(
 }
 
 // Job k, whose budget ends at `end`. Where no resource is held, the job ends with its budget.
-pub fn job_response(
-    periods: &[u32],
-    costs: &[u32],
-    frees: &[u32],
-    holdings: &[u32],
-    ceilings: &[usize],
-    own: Own,
-    k: u32,
-    end: u32,
-    ends: [u32; Table::MOST],
-) -> Job
-    requires sound_view { SoundView (seen_by periods.now costs.now holdings.now ceilings.now own) }
-    requires counted { Counted (seen_by periods.now costs.now holdings.now ceilings.now own) k }
-    requires end_value { end ≡ budget_end (seen_by periods.now costs.now holdings.now ceilings.now own) k }
-    requires ends_at { EndsAt periods.now ends own.place end × (most ≤ length ends) }
-    requires frees { Frees periods.now costs.now frees.now (own.place + 1) }
-    ensures { result ≡ job_of (seen_by periods.now costs.now holdings.now ceilings.now own) k }
+pub fn job_response(seen: &Seen, k: u32, end: u32, ends: [u32; Table::MOST]) -> Job
+    requires counted { Counted (view_in seen.now) k }
+    requires end_value { end ≡ budget_end (view_in seen.now) k }
+    requires ends_at { EndsAt seen.now.asking.loads.periods.now ends seen.now.own.place end × (most ≤ length ends) }
+    ensures { result ≡ job_of (view_in seen.now) k }
 {
-    let s = own.place;
-    if costs[s] == own.budget {
+    let own = &seen.own;
+    if seen.asking.loads.costs[own.place] == own.budget {
         return Job {
             end,
             response: end - k * own.period,
             resource: 0,
         };
     }
-    let best = best_response(periods, costs, frees, holdings, ceilings, own, k, end, ends);
+    let best = best_response(seen, k, end, ends);
     Job {
         end,
         response: best.value,

@@ -5,7 +5,7 @@ use native.Mathlib.Omega.{arith}
 use mathlib.Core.Path.{◌≡◌, refl, sym, ap, ◌∙◌}
 use Rattle.table.specs.Limits.{horizon}
 use Rattle.row.specs.Row.{row_for}
-use Rattle.job.specs.Computed.{seen_by}
+use Rattle.job.specs.Seen.{view_in}
 use Rattle.job.proofs.BestLaws.{worst_first, worst_step}
 use Rattle.row.proofs.RowLaws.{budget_below, overrun_computed, row_with_lem, row_without_lem}
 use Rattle.done.proofs.OnTheWayLaws.{reached_first, job_reached, last_job, active_reached, next_after, reached_next, nothing_reached}
@@ -13,47 +13,47 @@ use Rattle.done.proofs.row_by_jobs.Goals as goal
 
 pub loop-release-init : goal.loop-release-init
 loop-release-init c =
-    let r = reached_first ((seen_by c.args.periods.now c.args.costs.now c.args.holdings.now c.args.ceilings.now c.args.own)) c.requires.first_done in
-    (r, omega arith, worst_first ((seen_by c.args.periods.now c.args.costs.now c.args.holdings.now c.args.ceilings.now c.args.own)) (job_reached ((seen_by c.args.periods.now c.args.costs.now c.args.holdings.now c.args.ceilings.now c.args.own)) c.requires.ends_done r (omega arith)))
+    let r = reached_first (view_in c.args.seen.now) c.requires.first_done in
+    (r, omega arith, worst_first (view_in c.args.seen.now) (job_reached (view_in c.args.seen.now) c.requires.ends_done r (omega arith)))
 
 pub least_after-end-requires : goal.least_after-end-requires
 least_after-end-requires c =
-    let late : (c.loop-release.k + 1) * c.args.own.period < c.loop-release.end = omega (arith, c.loop-release-test.true, c.loop-release.invariant.1) in
-    record { after = next_after ((seen_by c.args.periods.now c.args.costs.now c.args.holdings.now c.args.ceilings.now c.args.own)) c.requires.sound_view c.loop-release.invariant.0 (late) c.requires.frees; bound_lt_reach = omega arith }
+    let late : (c.loop-release.k + 1) * c.args.seen.now.own.period < c.loop-release.end = omega (arith, c.loop-release-test.true, c.loop-release.invariant.1) in
+    record { after = next_after (view_in c.args.seen.now) c.args.seen.now.sound c.loop-release.invariant.0 (late) c.args.seen.now.free; bound_lt_reach = omega arith }
 
 pub row_without-requires : goal.row_without-requires
 row_without-requires c =
-    budget_below ((seen_by c.args.periods.now c.args.costs.now c.args.holdings.now c.args.ceilings.now c.args.own)) c.requires.sound_view
+    budget_below (view_in c.args.seen.now) c.args.seen.now.sound
 
 pub returns-then-end-gt-HORIZON : goal.returns-then-end-gt-HORIZON
 returns-then-end-gt-HORIZON c =
-    let late : (c.loop-release.k + 1) * c.args.own.period < c.loop-release.end = omega (arith, c.loop-release-test.true, c.loop-release.invariant.1) in
+    let late : (c.loop-release.k + 1) * c.args.seen.now.own.period < c.loop-release.end = omega (arith, c.loop-release-test.true, c.loop-release.invariant.1) in
     c.row_without.ensures ∙
-    row_without_lem ((seen_by c.args.periods.now c.args.costs.now c.args.holdings.now c.args.ceilings.now c.args.own)) c.args.own.failing (overrun_computed ((seen_by c.args.periods.now c.args.costs.now c.args.holdings.now c.args.ceilings.now c.args.own)) c.requires.sound_view) (nothing_reached ((seen_by c.args.periods.now c.args.costs.now c.args.holdings.now c.args.ceilings.now c.args.own)) c.requires.sound_view c.loop-release.invariant.0 (late) c.least_after-end.ensures.found c.if-end-gt-HORIZON.true)
+    row_without_lem (view_in c.args.seen.now) c.args.seen.now.own.failing (overrun_computed (view_in c.args.seen.now) c.args.seen.now.sound) (nothing_reached (view_in c.args.seen.now) c.args.seen.now.sound c.loop-release.invariant.0 (late) c.least_after-end.ensures.found c.if-end-gt-HORIZON.true)
 
 pub overflow_sub-response : goal.overflow_sub-response
 overflow_sub-response c =
-    let late : (c.loop-release.k + 1) * c.args.own.period < c.loop-release.end = omega (arith, c.loop-release-test.true, c.loop-release.invariant.1) in
-    let next : ((c.loop-release.k + 1) * c.args.own.period < c.least_after-end.result) × (c.least_after-end.result ≤ horizon) = let r = reached_next ((seen_by c.args.periods.now c.args.costs.now c.args.holdings.now c.args.ceilings.now c.args.own)) c.requires.sound_view c.loop-release.invariant.0 (late) c.least_after-end.ensures.found c.if-end-gt-HORIZON.false c.least_after-end.ensures.ends_len_unchanged in
+    let late : (c.loop-release.k + 1) * c.args.seen.now.own.period < c.loop-release.end = omega (arith, c.loop-release-test.true, c.loop-release.invariant.1) in
+    let next : ((c.loop-release.k + 1) * c.args.seen.now.own.period < c.least_after-end.result) × (c.least_after-end.result ≤ horizon) = let r = reached_next (view_in c.args.seen.now) c.args.seen.now.sound c.loop-release.invariant.0 (late) c.least_after-end.ensures.found c.if-end-gt-HORIZON.false c.least_after-end.ensures.ends_len_unchanged in
     (r.released, r.within) in
     omega (arith, (next).0, c.loop-release.invariant.1)
 
 pub loop-release-preserved : goal.loop-release-preserved
 loop-release-preserved c =
-    let late : (c.loop-release.k + 1) * c.args.own.period < c.loop-release.end = omega (arith, c.loop-release-test.true, c.loop-release.invariant.1) in
-    let r = reached_next ((seen_by c.args.periods.now c.args.costs.now c.args.holdings.now c.args.ceilings.now c.args.own)) c.requires.sound_view c.loop-release.invariant.0 (late) c.least_after-end.ensures.found c.if-end-gt-HORIZON.false c.least_after-end.ensures.ends_len_unchanged in
-    let after : (c.loop-release.k + 1 + 1) * c.args.own.period ≡ (c.loop-release.k + 1) * c.args.own.period + c.args.own.period = rw (add-one (c.loop-release.k + 1)) (omega (arith, suc-mul (c.loop-release.k + 1) c.args.own.period)) in (
+    let late : (c.loop-release.k + 1) * c.args.seen.now.own.period < c.loop-release.end = omega (arith, c.loop-release-test.true, c.loop-release.invariant.1) in
+    let r = reached_next (view_in c.args.seen.now) c.args.seen.now.sound c.loop-release.invariant.0 (late) c.least_after-end.ensures.found c.if-end-gt-HORIZON.false c.least_after-end.ensures.ends_len_unchanged in
+    let after : (c.loop-release.k + 1 + 1) * c.args.seen.now.own.period ≡ (c.loop-release.k + 1) * c.args.seen.now.own.period + c.args.seen.now.own.period = rw (add-one (c.loop-release.k + 1)) (omega (arith, suc-mul (c.loop-release.k + 1) c.args.seen.now.own.period)) in (
       r,
       omega (arith, c.loop-release.invariant.1, after),
-      worst_step ((seen_by c.args.periods.now c.args.costs.now c.args.holdings.now c.args.ceilings.now c.args.own)) (c.loop-release.k + 1) c.loop-release.invariant.2 (job_reached ((seen_by c.args.periods.now c.args.costs.now c.args.holdings.now c.args.ceilings.now c.args.own)) c.requires.ends_done r (omega (arith, c.loop-release.invariant.1))) c.worse-worst.ensures,
+      worst_step (view_in c.args.seen.now) (c.loop-release.k + 1) c.loop-release.invariant.2 (job_reached (view_in c.args.seen.now) c.requires.ends_done r (omega (arith, c.loop-release.invariant.1))) c.worse-worst.ensures,
     )
 
 pub row_with-requires : goal.row_with-requires
 row_with-requires c =
-    budget_below ((seen_by c.args.periods.now c.args.costs.now c.args.holdings.now c.args.ceilings.now c.args.own)) c.requires.sound_view
+    budget_below (view_in c.args.seen.now) c.args.seen.now.sound
 
 pub returns : goal.returns
 returns c =
-    let over : c.loop-release.end ≤ (c.loop-release.k + 1) * c.args.own.period = omega (arith, c.loop-release-test.false, c.loop-release.invariant.1) in
-    c.row_with.ensures ∙ row_with_lem ((seen_by c.args.periods.now c.args.costs.now c.args.holdings.now c.args.ceilings.now c.args.own)) c.args.own.failing c.loop-release.end (overrun_computed ((seen_by c.args.periods.now c.args.costs.now c.args.holdings.now c.args.ceilings.now c.args.own)) c.requires.sound_view) (last_job ((seen_by c.args.periods.now c.args.costs.now c.args.holdings.now c.args.ceilings.now c.args.own)) c.requires.sound_view c.loop-release.invariant.0 over) c.loop-release.invariant.2 refl ∙
-    ap (row_for ((seen_by c.args.periods.now c.args.costs.now c.args.holdings.now c.args.ceilings.now c.args.own)) c.args.own.failing) (sym (active_reached ((seen_by c.args.periods.now c.args.costs.now c.args.holdings.now c.args.ceilings.now c.args.own)) c.requires.sound_view c.loop-release.invariant.0 over))
+    let over : c.loop-release.end ≤ (c.loop-release.k + 1) * c.args.seen.now.own.period = omega (arith, c.loop-release-test.false, c.loop-release.invariant.1) in
+    c.row_with.ensures ∙ row_with_lem (view_in c.args.seen.now) c.args.seen.now.own.failing c.loop-release.end (overrun_computed (view_in c.args.seen.now) c.args.seen.now.sound) (last_job (view_in c.args.seen.now) c.args.seen.now.sound c.loop-release.invariant.0 over) c.loop-release.invariant.2 refl ∙
+    ap (row_for (view_in c.args.seen.now) c.args.seen.now.own.failing) (sym (active_reached (view_in c.args.seen.now) c.args.seen.now.sound c.loop-release.invariant.0 over))

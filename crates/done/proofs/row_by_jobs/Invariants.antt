@@ -3,13 +3,14 @@
 use Prim.Native.Nat.{◌+◌, ◌-◌, ◌*◌}
 use mathlib.Core.Path.{◌≡◌}
 use Rattle.table.specs.Limits.{horizon}
-use Rattle.job.specs.Computed.{seen_by, worst_of}
+use Rattle.job.specs.Computed.{worst_of}
+use Rattle.job.specs.Seen.{view_in}
 use Rattle.done.proofs.OnTheWayLaws.{Reached}
 use Rattle.done.proofs.row_by_jobs.Given as goal
 
 abbrev pub invariant-loop-release : goal.invariant-loop-release
 invariant-loop-release l =
-    Reached (seen_by l.periods l.costs l.holdings l.ceilings l.own) l.k l.end l.ends × (l.release ≡ (l.k + 1) * l.own.period) × (l.worst ≡ worst_of (seen_by l.periods l.costs l.holdings l.ceilings l.own) (l.k + 1))
+    Reached (view_in l.seen) l.k l.end l.ends × (l.release ≡ (l.k + 1) * l.seen.own.period) × (l.worst ≡ worst_of (view_in l.seen) (l.k + 1))
 
 abbrev pub decreases-loop-release : goal.decreases-loop-release
 decreases-loop-release l =

@@ -7,22 +7,20 @@ use Rattle.global.proofs.active_row.Goals as goal
 
 pub round_up-n-requires : goal.round_up-n-requires
 round_up-n-requires c =
-    (active_from _ c.requires.sound_view c.requires.own_value, period_pos _ c.requires.sound_view)
+    (active_from _ c.args.seen.now.sound c.requires.own_value, period_pos _ c.args.seen.now.sound)
 
 pub largest_response-worst-requires : goal.largest_response-worst-requires
 unfolding jobs
 largest_response-worst-requires c =
     record {
-      sound_view = c.requires.sound_view;
       jobs = record { is_active = c.requires.own_value; all = c.round_up-n.ensures };
       first_end = c.requires.first_end;
-      frees = c.requires.frees;
     }
 
 pub row_with-requires : goal.row_with-requires
 row_with-requires c =
-    budget_below _ c.requires.sound_view
+    budget_below _ c.args.seen.now.sound
 
 pub returns : goal.returns
 returns c =
-    c.row_with.ensures ∙ row_with_lem _ c.args.own.failing c.args.active (overrun_computed _ c.requires.sound_view) c.round_up-n.ensures c.largest_response-worst.ensures refl
+    c.row_with.ensures ∙ row_with_lem _ c.args.seen.now.own.failing c.args.active (overrun_computed _ c.args.seen.now.sound) c.round_up-n.ensures c.largest_response-worst.ensures refl

@@ -7,13 +7,13 @@ use Rattle.global.proofs.row_searched.Goals as goal
 
 pub row_without-requires : goal.row_without-requires
 row_without-requires c =
-    budget_below _ c.requires.sound_view
+    budget_below _ c.args.seen.now.sound
 
 pub returns-then-active-gt-HORIZON : goal.returns-then-active-gt-HORIZON
 returns-then-active-gt-HORIZON c =
-    c.row_without.ensures ∙ row_without_lem _ c.args.own.failing (overrun_computed _ c.requires.sound_view) (c.active_from-active.ensures.beyond c.if-active-gt-HORIZON.true)
+    c.row_without.ensures ∙ row_without_lem _ c.args.seen.now.own.failing (overrun_computed _ c.args.seen.now.sound) (c.active_from-active.ensures.beyond c.if-active-gt-HORIZON.true)
 
 pub row_by_jobs-requires : goal.row_by_jobs-requires
 row_by_jobs-requires c =
-    let nothing = no_overrun _ c.requires.sound_view (c.nearly_all.ensures c.if-nearly_all.true) in
-    record { sound_view = c.requires.sound_view; ends_done = ends_done_without _ nothing; first_done = first_done_without _ nothing c.requires.first_end; frees = c.requires.frees }
+    let nothing = no_overrun _ c.args.seen.now.sound (c.nearly_all.ensures c.if-nearly_all.true) in
+    record { ends_done = ends_done_without _ nothing; first_done = first_done_without _ nothing c.requires.first_end }

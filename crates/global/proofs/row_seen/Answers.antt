@@ -11,38 +11,38 @@ use Rattle.global.proofs.row_seen.Goals as goal
 
 pub row_without-requires : goal.row_without-requires
 row_without-requires c =
-    budget_below _ c.requires.sound_view
+    budget_below _ c.args.seen.now.sound
 
 pub returns-then-fits-s : goal.returns-then-fits-s
 returns-then-fits-s c =
-    c.row_without.ensures ∙ row_without_lem _ c.args.own.failing (overrun_computed _ c.requires.sound_view) (c.requires.own_value c.if-fits-s.true)
+    c.row_without.ensures ∙ row_without_lem _ c.args.seen.now.own.failing (overrun_computed _ c.args.seen.now.sound) (c.requires.own_value c.if-fits-s.true)
 
 pub overflow_add-ahead : goal.overflow_add-ahead
 overflow_add-ahead c =
-    record { fits = omega (arith, first_small _ c.requires.sound_view) }
+    record { fits = omega (arith, first_small _ c.args.seen.now.sound) }
 
 pub least_after-first-requires : goal.least_after-first-requires
 least_after-first-requires c =
-    record { after = after_none _ c.requires.sound_view 0 (first_ahead _ c.requires.sound_view) (first_small _ c.requires.sound_view) c.requires.frees; bound_lt_reach = omega arith }
+    record { after = after_none _ c.args.seen.now.sound 0 (first_ahead _ c.args.seen.now.sound) (first_small _ c.args.seen.now.sound) c.args.seen.now.free; bound_lt_reach = omega arith }
 
 pub row_without-requires-then-first-gt-HORIZON : goal.row_without-requires-then-first-gt-HORIZON
 row_without-requires-then-first-gt-HORIZON c =
-    budget_below _ c.requires.sound_view
+    budget_below _ c.args.seen.now.sound
 
 pub returns-then-first-gt-HORIZON : goal.returns-then-first-gt-HORIZON
 returns-then-first-gt-HORIZON c =
-    c.row_without-then-first-gt-HORIZON.ensures ∙ row_without_lem _ c.args.own.failing (overrun_computed _ c.requires.sound_view) (first_beyond _ c.requires.sound_view c.least_after-first.ensures.found (omega (arith, c.if-first-gt-HORIZON.true)))
+    c.row_without-then-first-gt-HORIZON.ensures ∙ row_without_lem _ c.args.seen.now.own.failing (overrun_computed _ c.args.seen.now.sound) (first_beyond _ c.args.seen.now.sound c.least_after-first.ensures.found (omega (arith, c.if-first-gt-HORIZON.true)))
 
 pub row_alone-requires : goal.row_alone-requires
 row_alone-requires c =
     let some : 1 ≤ c.lone_on_the_way-res.result = omega (arith, c.if-res-ne0.true) in
-    record { sound_view = c.requires.sound_view; le_lone = (some, c.lone_on_the_way-res.ensures some); first_end = first_end _ c.requires.sound_view c.least_after-first.ensures.found (omega (arith, c.least_after-first.ensures.ends_len_unchanged)) c.if-first-gt-HORIZON.false; frees = c.requires.frees }
+    record { le_lone = (some, c.lone_on_the_way-res.ensures some); first_end = first_end _ c.args.seen.now.sound c.least_after-first.ensures.found (omega (arith, c.least_after-first.ensures.ends_len_unchanged)) c.if-first-gt-HORIZON.false }
 
 pub row_by_jobs-requires : goal.row_by_jobs-requires
 row_by_jobs-requires c =
-    let nothing = no_overrun _ c.requires.sound_view (omega (arith, c.on_the_way.ensures c.if-on_the_way.true)) in
-    record { sound_view = c.requires.sound_view; ends_done = ends_done_without _ nothing; first_done = first_done_without _ nothing (first_end _ c.requires.sound_view c.least_after-first.ensures.found (omega (arith, c.least_after-first.ensures.ends_len_unchanged)) c.if-first-gt-HORIZON.false); frees = c.requires.frees }
+    let nothing = no_overrun _ c.args.seen.now.sound (omega (arith, c.on_the_way.ensures c.if-on_the_way.true)) in
+    record { ends_done = ends_done_without _ nothing; first_done = first_done_without _ nothing (first_end _ c.args.seen.now.sound c.least_after-first.ensures.found (omega (arith, c.least_after-first.ensures.ends_len_unchanged)) c.if-first-gt-HORIZON.false) }
 
 pub row_searched-requires : goal.row_searched-requires
 row_searched-requires c =
-    record { sound_view = c.requires.sound_view; first_end = first_end _ c.requires.sound_view c.least_after-first.ensures.found (omega (arith, c.least_after-first.ensures.ends_len_unchanged)) c.if-first-gt-HORIZON.false; frees = c.requires.frees }
+    record { first_end = first_end _ c.args.seen.now.sound c.least_after-first.ensures.found (omega (arith, c.least_after-first.ensures.ends_len_unchanged)) c.if-first-gt-HORIZON.false }

@@ -16,20 +16,20 @@ loop-l-init c =
 
 pub overflow_mul-release : goal.overflow_mul-release
 overflow_mul-release c =
-    omega (arith, released_before_end _ c.requires.sound_view c.requires.counted, budget_end_within _ c.requires.sound_view c.requires.counted, active_within _ c.requires.sound_view c.requires.counted.is_active)
+    omega (arith, released_before_end _ c.args.seen.now.sound c.requires.counted, budget_end_within _ c.args.seen.now.sound c.requires.counted, active_within _ c.args.seen.now.sound c.requires.counted.is_active)
 
 pub response_with-response-requires : goal.response_with-response-requires
 unfolding ceiling held
 response_with-response-requires c =
     let counts = pos_of_ne-zero c.if-held-ne0.true in
-    let reaches = c.requires.sound_view.ceiling_reaches c.loop-l.l c.loop-l-test.true counts in
-    record { ends_at = (λ t u. c.requires.ends_at.0 t (omega (arith, u, reaches)), c.requires.ends_at.1); budget_over = after_end _ c.requires.sound_view c.requires.counted c.loop-l.l c.loop-l-test.true c.requires.end_value counts; release_le_end = omega (arith, released_before_end _ c.requires.sound_view c.requires.counted, c.requires.end_value); frees = frees_fewer _ c.requires.frees (omega (arith, reaches)) }
+    let reaches = c.args.seen.now.sound.ceiling_reaches c.loop-l.l c.loop-l-test.true counts in
+    record { ends_at = (λ t u. c.requires.ends_at.0 t (omega (arith, u, reaches)), c.requires.ends_at.1); budget_over = after_end _ c.args.seen.now.sound c.requires.counted c.loop-l.l c.loop-l-test.true c.requires.end_value counts; release_le_end = omega (arith, released_before_end _ c.args.seen.now.sound c.requires.counted, c.requires.end_value); frees = frees_fewer _ c.args.seen.now.free (omega (arith, reaches)) }
 
 pub loop-l-preserved : goal.loop-l-preserved
 unfolding ceiling held
 loop-l-preserved c =
     (elim c.if-held-ne0.branch [
-      | then-held-ne0 w ↦ let here = responds _ c.requires.sound_view c.requires.counted c.loop-l.l c.loop-l-test.true c.requires.end_value (pos_of_ne-zero w.if-held-ne0.true) w.response_with-response.ensures in
+      | then-held-ne0 w ↦ let here = responds _ c.args.seen.now.sound c.requires.counted c.loop-l.l c.loop-l-test.true c.requires.end_value (pos_of_ne-zero w.if-held-ne0.true) w.response_with-response.ensures in
           rw w.best-is (best_step (response_with _ c.args.k) c.loop-l.l c.loop-l.invariant here w.better-best.ensures)
       | else-held-ne0 w ↦ rw w.best-is (best_stays (response_with _ _) c.loop-l.l c.loop-l.invariant (uncounted_response _ _ c.loop-l.l (omega (arith, w.if-held-ne0.false))))
     ])

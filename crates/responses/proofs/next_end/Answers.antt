@@ -9,37 +9,37 @@ use Rattle.responses.proofs.next_end.Goals as goal
 
 pub overflow_add-k : goal.overflow_add-k
 overflow_add-k c =
-    record { fits = omega (arith, job_small _ c.requires.sound_view c.requires.counted) }
+    record { fits = omega (arith, job_small _ c.args.seen.now.sound c.requires.counted) }
 
 pub overflow_mul-k : goal.overflow_mul-k
 overflow_mul-k c =
-    record { fits = omega (arith, ahead_within _ c.requires.sound_view c.requires.counted c.requires.sound_view.own_cost) }
+    record { fits = omega (arith, ahead_within _ c.args.seen.now.sound c.requires.counted c.args.seen.now.sound.own_cost) }
 
 pub overflow_add-own : goal.overflow_add-own
 overflow_add-own c =
-    record { fits = omega (arith, ahead_within _ c.requires.sound_view c.requires.counted c.requires.sound_view.own_cost) }
+    record { fits = omega (arith, ahead_within _ c.args.seen.now.sound c.requires.counted c.args.seen.now.sound.own_cost) }
 
 pub overflow_add-own-else-spare-eq0 : goal.overflow_add-own-else-spare-eq0
 overflow_add-own-else-spare-eq0 c =
-    record { fits = omega (arith, ahead_within _ c.requires.sound_view c.requires.counted c.requires.sound_view.own_cost) }
+    record { fits = omega (arith, ahead_within _ c.args.seen.now.sound c.requires.counted c.args.seen.now.sound.own_cost) }
 
 pub standing-start-requires : goal.standing-start-requires
 standing-start-requires c =
-    (omega (arith, ahead_within _ c.requires.sound_view c.requires.counted c.requires.sound_view.own_cost), omega (arith, c.if-spare-eq0.false))
+    (omega (arith, ahead_within _ c.args.seen.now.sound c.requires.counted c.args.seen.now.sound.own_cost), omega (arith, c.if-spare-eq0.false))
 
 pub least_within-requires : goal.least_within-requires
 least_within-requires c =
     let here = counted_before _ c.requires.counted in
     record {
-      after = next_after _ c.requires.sound_view here c.requires.ended.is_end c.requires.ended.ends_at c.requires.ended.with_end c.requires.frees
+      after = next_after _ c.args.seen.now.sound here c.requires.ended.is_end c.requires.ended.ends_at c.requires.ended.with_end c.args.seen.now.free
           (elim c.if-spare-eq0.branch [
             | then-spare-eq0 w ↦ rw w.start-is (starts_nowhere _ _)
             | else-spare-eq0 w ↦ let some : 1 ≤ c.args.spare = omega (arith, w.if-spare-eq0.false) in
-                rw w.start-is (starts_by_spare _ c.requires.sound_view (c.args.k + 1) _ c.requires.sound_view.own_cost (c.requires.spare_value some) some w.standing-start.ensures)
+                rw w.start-is (starts_by_spare _ c.args.seen.now.sound (c.args.k + 1) _ c.args.seen.now.sound.own_cost (c.requires.spare_value some) some w.standing-start.ensures)
           ]);
-      comes_down = next_down _ c.requires.sound_view here c.requires.ended.is_end c.requires.counted;
+      comes_down = next_down _ c.args.seen.now.sound here c.requires.ended.is_end c.requires.counted;
     }
 
 pub returns : goal.returns
 returns c =
-    record { is_end = next_found _ c.requires.sound_view (counted_before _ c.requires.counted) c.requires.ended.is_end c.requires.counted c.least_within.ensures.least; with_end = omega (arith, c.requires.ended.with_end, c.least_within.ensures.ends_at.1); ends_at = c.least_within.ensures.ends_at.0 }
+    record { is_end = next_found _ c.args.seen.now.sound (counted_before _ c.requires.counted) c.requires.ended.is_end c.requires.counted c.least_within.ensures.least; with_end = omega (arith, c.requires.ended.with_end, c.least_within.ensures.ends_at.1); ends_at = c.least_within.ensures.ends_at.0 }
