@@ -9,7 +9,7 @@ use Rattle.table.specs.Meaning.{SubsystemM, System, meaning}
 use Rattle.table.specs.Parts.{subsystem_count, subsystem_of, task_count}
 use Rattle.rules.specs.Admitted.{SoundSubsystem, SoundSystem}
 use Rattle.rules.specs.Rules.{judge_of}
-use Rattle.rules.specs.declared.Judged.TheVariants.{Admitted}
+use Rattle.rules.specs.Judged.{admitted}
 use Rattle.rules.proofs.Sound.{admitted_is_sound}
 use Rattle.supply.proofs.Agreement.{always_given_is_supply}
 use Rattle.local.specs.Passing.{deadline_of, need, held_within, task_passes, giving_end}
@@ -51,7 +51,7 @@ passing_in_system sys sound s i h k =
 
 -- Over an admitted table.
 pub passing_in_table :
-    (t : Table) → judge_of (meaning t) ≡ Admitted → (s i : ℕ) → s < subsystem_count (meaning t) → i < task_count (subsystem_of (meaning t) s) →
+    (t : Table) → judge_of (meaning t) ≡ admitted → (s i : ℕ) → s < subsystem_count (meaning t) → i < task_count (subsystem_of (meaning t) s) →
     let m = t.resources in
     let u = subsystem_of (meaning t) s in
     (task_passes m u (giving_end m u) i ≡ true) ↔ SomeWindowHolds m u (giving_end m u) i

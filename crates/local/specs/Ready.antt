@@ -4,13 +4,6 @@ use Rattle.lists.specs.Range.{padded}
 use Rattle.table.specs.Limits.{most}
 use Rattle.table.specs.Grid.{period_in, budget_in, separation_in, work_in, subsystem_in}
 use Rattle.rules.specs.Admitted.{SoundSubsystem}
-use Rattle.local.specs.declared.Share.{Share}
-
--- A budget of at least one tick, given among the first `end` ticks of a period.
-pub record Sharing (share : Share) : Type 0 where
-  pub budget_least : 1 ≤ share.budget
-  pub budget_by_end : share.budget ≤ share.end
-  pub end_by_period : share.end ≤ share.period
 
 -- What is taken out of a subsystem for task i: the separations and works of the tasks above it.
 pub record TakenOut (block : List (List ℕ)) (separations works : List ℕ) (i : ℕ) : Type 0 where

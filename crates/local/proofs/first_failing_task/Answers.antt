@@ -6,17 +6,9 @@ use Rattle.lists.proofs.UpTo.{padded_none, padded_turn}
 use Rattle.table.specs.Limits.{most}
 use Rattle.table.specs.Grid.{count_in, separation_in, work_in, subsystem_in}
 use Rattle.local.proofs.BlockingLaws.{blocking_read}
-use Rattle.local.proofs.TaskLaws.{some_task, tasks_within}
+use Rattle.local.proofs.TaskLaws.{tasks_within}
 use Rattle.local.proofs.FailingLaws.{failing_from_zero, failing_here, failing_next, failing_over}
 use Rattle.local.proofs.first_failing_task.Goals as goal
-
-pub task_blockings-blockings-requires-clause-counted : goal.task_blockings-blockings-requires-clause-counted
-task_blockings-blockings-requires-clause-counted c =
-    record {
-      some_task = some_task _ _ c.requires.ready.sound;
-      tasks_most = tasks_within _ _ c.requires.ready.sound;
-      resources_most = c.requires.ready.resources_most;
-    }
 
 pub loop-i-init : goal.loop-i-init
 loop-i-init c = (
@@ -30,24 +22,24 @@ loop-i-init c = (
 
 pub task_passes-requires-clause-i_bound : goal.task_passes-requires-clause-i_bound
 task_passes-requires-clause-i_bound c =
-    let below : c.loop-i.i < count_in c.args.block.now = omega (arith, c.count-i-end.ensures) in
-    (below, blocking_read (subsystem_in c.args.m c.args.block.now) c.args.m (count_in c.args.block.now) c.loop-i.i _ c.task_blockings-blockings.ensures below, c.loop-i.invariant.1)
+    let below : c.loop-i.i < count_in c.args.part.now.block.now = omega (arith, c.count-i-end.ensures) in
+    (below, blocking_read (subsystem_in c.args.part.now.m c.args.part.now.block.now) c.args.part.now.m (count_in c.args.part.now.block.now) c.loop-i.i _ c.task_blockings-blockings.ensures below, c.loop-i.invariant.1)
 
 pub returns-then-not-task_passes : goal.returns-then-not-task_passes
 returns-then-not-task_passes c =
-    failing_here c.args.m c.args.block.now c.args.end c.loop-i.i (omega (arith, c.count-i-end.ensures)) _ c.task_passes.ensures (ap not c.if-not-task_passes.true) c.loop-i.invariant.2
+    failing_here c.args.part.now.m c.args.part.now.block.now c.args.end c.loop-i.i (omega (arith, c.count-i-end.ensures)) _ c.task_passes.ensures (ap not c.if-not-task_passes.true) c.loop-i.invariant.2
 
 pub loop-i-preserved : goal.loop-i-preserved
 loop-i-preserved c =
     let room : c.loop-i.i < most = omega (arith, c.loop-i.invariant.0) in (
       c.loop-i.invariant.0,
       record {
-        separations_are = padded_turn (separation_in c.args.block.now) 0 most c.loop-i.i room c.loop-i.separations _ c.loop-i.invariant.1.separations_are c.separation.ensures;
-        works_are = padded_turn (work_in c.args.block.now) 0 most c.loop-i.i room c.loop-i.works _ c.loop-i.invariant.1.works_are c.work.ensures;
+        separations_are = padded_turn (separation_in c.args.part.now.block.now) 0 most c.loop-i.i room c.loop-i.separations _ c.loop-i.invariant.1.separations_are c.separation.ensures;
+        works_are = padded_turn (work_in c.args.part.now.block.now) 0 most c.loop-i.i room c.loop-i.works _ c.loop-i.invariant.1.works_are c.work.ensures;
       },
-      failing_next c.args.m c.args.block.now c.args.end c.loop-i.i (omega (arith, c.count-i-end.ensures)) _ c.task_passes.ensures (ap not c.if-not-task_passes.false) c.loop-i.invariant.2,
+      failing_next c.args.part.now.m c.args.part.now.block.now c.args.end c.loop-i.i (omega (arith, c.count-i-end.ensures)) _ c.task_passes.ensures (ap not c.if-not-task_passes.false) c.loop-i.invariant.2,
     )
 
 pub returns : goal.returns
 returns c =
-    failing_over c.args.m c.args.block.now c.args.end c.loop-i.i (omega (arith, c.count-i-end.ensures)) c.loop-i.invariant.2
+    failing_over c.args.part.now.m c.args.part.now.block.now c.args.end c.loop-i.i (omega (arith, c.count-i-end.ensures)) c.loop-i.invariant.2

@@ -7,4 +7,4 @@ use Rattle.local.proofs.first_failing_task.Given as goal
 
 abbrev pub invariant-loop-i : goal.invariant-loop-i
 invariant-loop-i l =
-    (l.i-end ≤ most) × TakenOut l.block l.separations l.works l.i × FailingFrom l.m l.block l.end l.i
+    (l.i-end ≤ most) × TakenOut l.part.block.now l.separations l.works l.i × FailingFrom l.part.m l.part.block.now l.end l.i

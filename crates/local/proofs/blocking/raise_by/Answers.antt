@@ -15,22 +15,22 @@ columnOf block l j = access_in block j l
 
 pub loop-i-init : goal.loop-i-init
 loop-i-init c =
-    let f = columnOf c.args.block.now c.args.l in
-    let n = count_in c.args.block.now in (
-      omega (arith, c.inner_ceiling-ceiling.ensures, c.count-i.ensures, ceiling_is_a_task c.args.block.now c.args.l c.args.m c.requires.slots.listed c.requires.slots.some_task),
+    let f = columnOf c.args.part.now.block.now c.args.l in
+    let n = count_in c.args.part.now.block.now in (
+      omega (arith, c.inner_ceiling-ceiling.ensures, c.count-i.ensures, ceiling_is_a_task c.args.part.now.block.now c.args.l c.args.part.now.m c.requires.listed c.args.part.now.counted.some_task),
       sym (behind_last f n _ (omega (arith, c.count-i.ensures))),
-      raised_last f n (task_blocking c.args.l (subsystem_in c.args.m c.args.block.now)) most _ (omega (arith, c.count-i.ensures)) c.requires.blockings_value,
+      raised_last f n (task_blocking c.args.l (subsystem_in c.args.part.now.m c.args.part.now.block.now)) most _ (omega (arith, c.count-i.ensures)) c.requires.blockings_value,
     )
 
 pub loop-i-preserved : goal.loop-i-preserved
 loop-i-preserved c =
-    let f = columnOf c.args.block.now c.args.l in
-    let n = count_in c.args.block.now in
-    let within : c.loop-i.i < n = omega (arith, c.count-i.ensures, c.requires.slots.some_task) in
+    let f = columnOf c.args.part.now.block.now c.args.l in
+    let n = count_in c.args.part.now.block.now in
+    let within : c.loop-i.i < n = omega (arith, c.count-i.ensures, c.args.part.now.counted.some_task) in
     let next : c.loop-i.i ≡ c.loop-i.i - 1 + 1 = omega (arith, c.loop-i-test.true) in
     let longest = c.max-longest.ensures ∙ ap₂ max c.loop-i.invariant.1 (c.access.ensures ∙ ap f (sym next)) ∙ sym (behind_next f n (c.loop-i.i - 1) c.loop-i.i next within) in
-    (omega (arith, c.loop-i-test.true), longest, raised_next f n (task_blocking c.args.l (subsystem_in c.args.m c.args.block.now)) most (c.loop-i.i - 1) c.loop-i.i next within longest c.loop-i.invariant.2 refl c.max.ensures)
+    (omega (arith, c.loop-i-test.true), longest, raised_next f n (task_blocking c.args.l (subsystem_in c.args.part.now.m c.args.part.now.block.now)) most (c.loop-i.i - 1) c.loop-i.i next within longest c.loop-i.invariant.2 refl c.max.ensures)
 
 pub returns : goal.returns
 returns c =
-    raised_all (columnOf c.args.block.now c.args.l) (count_in c.args.block.now) (task_blocking c.args.l (subsystem_in c.args.m c.args.block.now)) most c.loop-i.i _ c.loop-i.invariant.2 (blocking_more c.args.m c.args.block.now c.args.l c.loop-i.i c.requires.slots.listed (omega (arith, c.loop-i-test.false, c.loop-i.invariant.0, c.inner_ceiling-ceiling.ensures)))
+    raised_all (columnOf c.args.part.now.block.now c.args.l) (count_in c.args.part.now.block.now) (task_blocking c.args.l (subsystem_in c.args.part.now.m c.args.part.now.block.now)) most c.loop-i.i _ c.loop-i.invariant.2 (blocking_more c.args.part.now.m c.args.part.now.block.now c.args.l c.loop-i.i c.requires.listed (omega (arith, c.loop-i-test.false, c.loop-i.invariant.0, c.inner_ceiling-ceiling.ensures)))

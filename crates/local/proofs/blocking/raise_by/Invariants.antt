@@ -15,4 +15,4 @@ columnOf block l j = access_in block j l
 
 abbrev pub invariant-loop-i : goal.invariant-loop-i
 invariant-loop-i l =
-    (l.ceiling ≤ l.i) × (l.longest ≡ behind (columnOf l.block l.l) (count_in l.block) l.i) × (l.blockings ≡ padded (raised_from (columnOf l.block l.l) (count_in l.block) (task_blocking l.l (subsystem_in l.m l.block)) most l.i) 0 most (count_in l.block))
+    (l.ceiling ≤ l.i) × (l.longest ≡ behind (columnOf l.part.block.now l.l) (count_in l.part.block.now) l.i) × (l.blockings ≡ padded (raised_from (columnOf l.part.block.now l.l) (count_in l.part.block.now) (task_blocking l.l (subsystem_in l.part.m l.part.block.now)) most l.i) 0 most (count_in l.part.block.now))

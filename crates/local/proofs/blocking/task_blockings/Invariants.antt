@@ -8,4 +8,4 @@ use Rattle.local.specs.Blocking.{task_blocking}
 use Rattle.local.proofs.blocking.task_blockings.Given as goal
 
 abbrev pub invariant-loop-l : goal.invariant-loop-l
-invariant-loop-l l = l.blockings ≡ padded (task_blocking l.l (subsystem_in l.m l.block)) 0 most (count_in l.block)
+invariant-loop-l l = l.blockings ≡ padded (task_blocking l.l (subsystem_in l.part.m l.part.block.now)) 0 most (count_in l.part.block.now)

@@ -8,6 +8,6 @@ pub returns-then-last-need : goal.returns-then-last-need
 returns-then-last-need c =
     omega (
       arith,
-      moment_not_sooner c.args.share.period c.args.share.budget c.args.share.end c.requires.sharing.budget_least c.requires.sharing.budget_by_end
-          c.requires.sharing.end_by_period c.args.need (omega arith),
+      moment_not_sooner c.args.share.now.period c.args.share.now.budget c.args.share.now.end c.args.share.now.budget_least c.args.share.now.budget_by_end
+          c.args.share.now.end_by_period c.args.need (omega arith),
     )
