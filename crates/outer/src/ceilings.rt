@@ -8,10 +8,11 @@ ghost use Rattle.outer.specs.Interfaces.{period_at, budget_at, held_at, interfac
 ghost use Rattle.outer.specs.Parts.{cost_of};
 ghost use Rattle.outer.specs.Blocked.{ceiling_in};
 ghost use Rattle.outer.specs.Common.{common_of};
-ghost use Rattle.outer.specs.Sound.{Sound};
 
 use crate::blocking::blockings_of;
-use crate::interfaces::{WIDTH, budget, held, period};
+use crate::interfaces::{budget, held, period};
+use crate::shown::Shown;
+use least::LoadList;
 use table::Table;
 
 // What the rows of all subsystems share: P(s), Q(s) + X(s), what that leaves free of P(s), and B(s), of each subsystem, and RC(l) of
@@ -25,25 +26,27 @@ pub struct Common {
     pub blockings: [u32; Table::MOST],
 }
 
-// X(s): the largest holding time over the first m resources.
-pub(crate) fn largest_holding(lines: &[[u32; WIDTH]; Table::MOST], s: usize, m: usize) -> u32
-    requires { (s < most) × (m ≤ most) }
-    ensures { result ≡ largest_to (held_at lines.now s) m }
+// X(s): the largest holding time over all resources.
+pub(crate) fn largest_holding(shown: &Shown, s: usize) -> u32
+    requires { s < most }
+    ensures { result ≡ largest_to (held_at shown.now.lines.now s) shown.now.m }
 {
     // A loop, since the largest of no holding times is 0, which `max` of a chain leaves out.
     let mut best: u32 = 0;
-    for l in 0..m {
-        best = best.max(held(lines, s, l));
+    for l in 0..shown.m {
+        best = best.max(held(shown.lines, s, l));
     }
     best
 }
 
-// RC(l): the lowest index of n subsystems with an access to resource l, or the last where there is none.
-pub(crate) fn outer_ceiling(lines: &[[u32; WIDTH]; Table::MOST], n: usize, l: usize) -> usize
-    requires { (1 ≤ n) × (n ≤ most) × (l < most) }
-    ensures { result ≡ ceiling_in lines.now n l }
+// RC(l): the lowest index of a subsystem with an access to resource l, or the last where there is none.
+pub(crate) fn outer_ceiling(shown: &Shown, l: usize) -> usize
+    requires { l < most }
+    ensures { result ≡ ceiling_in shown.now.lines.now shown.now.n l }
 {
-    (0..n).find(|s| 0 < held(lines, *s, l)).unwrap_or(n - 1)
+    (0..shown.n)
+        .find(|s| 0 < held(shown.lines, *s, l))
+        .unwrap_or(shown.n - 1)
 }
 
 // An array of the first n values, and `empty` in the slots past them.
@@ -59,28 +62,26 @@ fn filled<T: Copy, F: Fn(usize) -> T>(n: usize, empty: T, value: F) -> [T; Table
     slots
 }
 
-// The period of each of n subsystems.
-fn periods_of(lines: &[[u32; WIDTH]; Table::MOST], n: usize) -> [u32; Table::MOST]
-    requires { n ≤ most }
-    ensures { result ≡ padded (period_at lines.now) 0 most n }
+// The period of each subsystem.
+fn periods_of(shown: &Shown) -> [u32; Table::MOST]
+    ensures { result ≡ padded (period_at shown.now.lines.now) 0 most shown.now.n }
 {
-    filled(n, 0, |s| period(lines, s))
+    filled(shown.n, 0, |s| period(shown.lines, s))
 }
 
 // Q(s) + X(s).
-fn cost(lines: &[[u32; WIDTH]; Table::MOST], s: usize, m: usize) -> u32
-    requires { (s < most) × (m ≤ most) × (budget_at lines.now s + largest_to (held_at lines.now s) m < 2 ^ 32) }
-    ensures { result ≡ budget_at lines.now s + largest_to (held_at lines.now s) m }
+fn cost(shown: &Shown, s: usize) -> u32
+    requires { s < shown.now.n }
+    ensures { result ≡ budget_at shown.now.lines.now s + largest_to (held_at shown.now.lines.now s) shown.now.m }
 {
-    budget(lines, s) + largest_holding(lines, s, m)
+    budget(shown.lines, s) + largest_holding(shown, s)
 }
 
 // Budget and largest holding time of each subsystem, together.
-fn costs_of(lines: &[[u32; WIDTH]; Table::MOST], n: usize, m: usize) -> [u32; Table::MOST]
-    requires { Sound (interfaces_in n m lines.now) }
-    ensures { result ≡ padded (cost_of (interfaces_in n m lines.now)) 0 most n }
+fn costs_of(shown: &Shown) -> [u32; Table::MOST]
+    ensures { result ≡ padded (cost_of (interfaces_in shown.now.n shown.now.m shown.now.lines.now)) 0 most shown.now.n }
 {
-    filled(n, 0, |s| cost(lines, s, m))
+    filled(shown.n, 0, |s| cost(shown, s))
 }
 
 // What each of n subsystems leaves free of its period.
@@ -92,37 +93,39 @@ fn frees_of(periods: [u32; Table::MOST], costs: [u32; Table::MOST], n: usize) ->
     filled(n, 0, |s| periods[s] - costs[s])
 }
 
-// The outer ceiling of each of m resources.
-fn ceilings_of(lines: &[[u32; WIDTH]; Table::MOST], n: usize, m: usize) -> [usize; Table::MOST]
-    requires { (1 ≤ n) × (n ≤ most) × (m ≤ most) }
-    ensures { result ≡ padded (ceiling_in lines.now n) 0 most m }
+// The outer ceiling of each resource.
+fn ceilings_of(shown: &Shown) -> [usize; Table::MOST]
+    ensures { result ≡ padded (ceiling_in shown.now.lines.now shown.now.n) 0 most shown.now.m }
 {
-    filled(m, 0, |l| outer_ceiling(lines, n, l))
+    filled(shown.m, 0, |l| outer_ceiling(shown, l))
 }
 
 // What the rows of these interfaces share.
-pub fn in_common(lines: &[[u32; WIDTH]; Table::MOST], n: usize, m: usize) -> Common
-    requires { Sound (interfaces_in n m lines.now) }
-    ensures { result ≡ common_of (interfaces_in n m lines.now) }
+pub fn in_common(shown: &Shown) -> Common
+    ensures { result ≡ common_of (interfaces_in shown.now.n shown.now.m shown.now.lines.now) }
 {
-    let periods = periods_of(lines, n);
-    let costs = costs_of(lines, n, m);
-    let ceilings = ceilings_of(lines, n, m);
+    let periods = periods_of(shown);
+    let costs = costs_of(shown);
+    let ceilings = ceilings_of(shown);
     Common {
         periods,
         costs,
-        frees: frees_of(periods, costs, n),
+        frees: frees_of(periods, costs, shown.n),
         ceilings,
-        blockings: blockings_of(lines, n, m, ceilings),
+        blockings: blockings_of(shown, ceilings),
     }
 }
 
 // How many of the n subsystems, from the first on, ask together for no more than every tick has. One behind them has no active
 // period.
-pub fn fitting_of(common: Common, n: usize) -> usize
-    requires loads { Loads (take n common.periods) (take n common.costs) n }
-    requires n_in_bounds { (n ≤ length common.periods) × (n ≤ length common.costs) }
-    ensures { Fitting (take n common.periods) (take n common.costs) n result }
+pub fn fitting_of(common: &Common, n: usize) -> usize
+    requires loads { Loads (take n common.now.periods) (take n common.now.costs) n }
+    requires n_in_bounds { (n ≤ length common.now.periods) × (n ≤ length common.now.costs) }
+    ensures { Fitting (take n common.now.periods) (take n common.now.costs) n result }
 {
-    least::fitting(&common.periods[..n], &common.costs[..n], n)
+    let loads = LoadList {
+        periods: &common.periods[..n],
+        costs: &common.costs[..n],
+    };
+    loads.fitting(n)
 }

@@ -9,8 +9,11 @@ use table::Table;
 // How many numbers a line has.
 pub const WIDTH: usize = 2 + Table::MOST;
 
+// The lines of all subsystems.
+pub type Lines = [[u32; WIDTH]; Table::MOST];
+
 // P(s).
-pub fn period(lines: &[[u32; WIDTH]; Table::MOST], s: usize) -> u32
+pub fn period(lines: &Lines, s: usize) -> u32
     requires { s < most }
     ensures { result ≡ period_at lines.now s }
 {
@@ -18,7 +21,7 @@ pub fn period(lines: &[[u32; WIDTH]; Table::MOST], s: usize) -> u32
 }
 
 // Q(s).
-pub fn budget(lines: &[[u32; WIDTH]; Table::MOST], s: usize) -> u32
+pub fn budget(lines: &Lines, s: usize) -> u32
     requires { s < most }
     ensures { result ≡ budget_at lines.now s }
 {
@@ -26,7 +29,7 @@ pub fn budget(lines: &[[u32; WIDTH]; Table::MOST], s: usize) -> u32
 }
 
 // X(s, l): how long subsystem s may hold resource l, 0 meaning no access.
-pub fn held(lines: &[[u32; WIDTH]; Table::MOST], s: usize, l: usize) -> u32
+pub fn held(lines: &Lines, s: usize, l: usize) -> u32
     requires { (s < most) × (l < most) }
     ensures { result ≡ held_at lines.now s l }
 {

@@ -6,14 +6,14 @@ ghost use Rattle.table.specs.Limits.{most};
 ghost use Rattle.outer.specs.Interfaces.{held_at};
 ghost use Rattle.outer.specs.Leading.{ceiling_at, led};
 
-use crate::interfaces::{WIDTH, held};
+use crate::interfaces::{Lines, held};
 use table::Table;
 
 // Resource l joins those before it. Where none of them decides at its ceiling, it does; where one does, it takes that one's place
 // only if it is held longer. Where it is not held, nothing changes.
 fn with_resource(
     deciding: &mut [u32; Table::MOST],
-    lines: &[[u32; WIDTH]; Table::MOST],
+    lines: &Lines,
     s: usize,
     ceilings: &[usize],
     l: usize,
@@ -39,11 +39,7 @@ fn with_resource(
 }
 
 // The holding times of the resources that decide, 0 for the others.
-pub fn leading(
-    lines: &[[u32; WIDTH]; Table::MOST],
-    s: usize,
-    ceilings: &[usize],
-) -> [u32; Table::MOST]
+pub fn leading(lines: &Lines, s: usize, ceilings: &[usize]) -> [u32; Table::MOST]
     requires { (s < most) × (length ceilings.now ≤ most) }
     ensures { result ≡ padded (led (held_at lines.now s) (ceiling_at ceilings.now) (length ceilings.now)) 0 most (length ceilings.now) }
 {

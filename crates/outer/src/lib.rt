@@ -8,5 +8,7 @@ mod blocking;
 mod ceilings;
 pub mod interfaces;
 pub mod leading;
+mod shown;
 
 pub use ceilings::{Common, fitting_of, in_common};
+pub use shown::Shown;

@@ -6,4 +6,4 @@ use Rattle.outer.specs.Blocked.{blocked_in}
 use Rattle.outer.proofs.blocking.blockings_of.Given as goal
 
 abbrev pub invariant-loop-l : goal.invariant-loop-l
-invariant-loop-l l = (l.blockings ≡ padded (blocked_in l.lines l.n l.l) 0 most l.n)
+invariant-loop-l l = (l.blockings ≡ padded (blocked_in l.shown.lines.now l.shown.n l.l) 0 most l.shown.n)

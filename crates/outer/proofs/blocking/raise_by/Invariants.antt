@@ -10,4 +10,4 @@ use Rattle.outer.proofs.blocking.raise_by.Given as goal
 
 abbrev pub invariant-loop-t : goal.invariant-loop-t
 invariant-loop-t l =
-    (l.ceiling ≤ l.t) × (l.longest ≡ behind (column_of l.lines l.l) l.n l.t) × (l.blockings ≡ padded (raised_from (column_of l.lines l.l) l.n (blocked_in l.lines l.n l.l) most l.t) 0 most l.n)
+    (l.ceiling ≤ l.t) × (l.longest ≡ behind (column_of l.shown.lines.now l.l) l.shown.n l.t) × (l.blockings ≡ padded (raised_from (column_of l.shown.lines.now l.l) l.shown.n (blocked_in l.shown.lines.now l.shown.n l.l) most l.t) 0 most l.shown.n)

@@ -10,4 +10,4 @@ loop-l-init c =
 
 pub loop-l-preserved : goal.loop-l-preserved
 loop-l-preserved c =
-    largest_step (held_at c.args.lines.now c.args.s) c.loop-l.l c.loop-l.invariant c.held.ensures c.max-best.ensures
+    largest_step (held_at c.args.shown.now.lines.now c.args.s) c.loop-l.l c.loop-l.invariant c.held.ensures c.max-best.ensures

@@ -6,4 +6,4 @@ use Rattle.outer.specs.Interfaces.{held_at}
 use Rattle.outer.proofs.ceilings.largest_holding.Given as goal
 
 abbrev pub invariant-loop-l : goal.invariant-loop-l
-invariant-loop-l l = (l.best ≡ largest_to (held_at l.lines l.s) l.l)
+invariant-loop-l l = (l.best ≡ largest_to (held_at l.shown.lines.now l.s) l.l)

@@ -8,7 +8,7 @@ use Rattle.outer.proofs.ceilings.outer_ceiling.Goals as goal
 
 pub returns : goal.returns
 returns c =
-    c.unwrap_or.ensures ∙ ceiling_found c.args.lines.now c.args.n c.args.l c.find.result
-    (first_from_Range _ _ _ _ (λ i. 0 < held_at c.args.lines.now i c.args.l) (λ i. held_at c.args.lines.now i c.args.l ≤ 0) c.find.ensures.ran
+    c.unwrap_or.ensures ∙ ceiling_found c.args.shown.now.lines.now c.args.shown.now.n c.args.l c.find.result
+    (first_from_Range _ _ _ _ (λ i. 0 < held_at c.args.shown.now.lines.now i c.args.l) (λ i. held_at c.args.shown.now.lines.now i c.args.l ≤ 0) c.find.ensures.ran
     (λ x q k. grind (arith, tests))
     (λ x q k. (search rules, grind (arith, tests))))
