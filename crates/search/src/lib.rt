@@ -81,8 +81,8 @@ impl<'a> Asking<'a> {
     // something above the bound. The bound is within reach, or a solution is, and then any bound will do. No solution lies before
     // `start`. `ends` holds the ends of the periods begun by y, and then of those begun by the solution. It goes over all loads in
     // passes, up to one in which none asks: all are ahead then. Two instructions spared at every load are worth more than the last pass.
-    // It and the two below are compiled into their callers, and it goes by a copy of what is asked: so its loops look up nowhere at
-    // which place the slices lie.
+    // `inline` asks for this function and the two below to become part of their callers, and the search goes by a copy of what is asked:
+    // so its loops need not look up where the slices lie.
     #[inline]
     fn climb(
         &self,
