@@ -2,7 +2,7 @@
 use native.Mathlib.Omega.{arith}
 use mathlib.Core.Path.{◌∙◌}
 use Rattle.row.proofs.RowLaws.{budget_below, overrun_computed, row_without_lem}
-use Rattle.done.proofs.DoneLaws.{ends_done_lone}
+use Rattle.done.proofs.DoneLaws.{ends_done_alone}
 use Rattle.done.proofs.OnTheWayLaws.{first_after, first_is_done, never_done}
 use Rattle.done.proofs.row_alone.Goals as goal
 
@@ -25,4 +25,4 @@ returns-then-done-gt-HORIZON c =
 
 pub row_by_jobs-requires : goal.row_by_jobs-requires
 row_by_jobs-requires c =
-    record { ends_done = ends_done_lone _ c.requires.le_lone.0 c.requires.le_lone.1; first_done = first_is_done _ c.args.seen.now.sound c.requires.first_end (overrun_computed _ c.args.seen.now.sound) c.least_after-done.ensures.found c.if-done-gt-HORIZON.false c.least_after-done.ensures.ends_len_unchanged }
+    record { ends_done = ends_done_alone _ c.requires.alone; first_done = first_is_done _ c.args.seen.now.sound c.requires.first_end (overrun_computed _ c.args.seen.now.sound) c.least_after-done.ensures.found c.if-done-gt-HORIZON.false c.least_after-done.ensures.ends_len_unchanged }

@@ -5,4 +5,4 @@ use Rattle.global.proofs.active_start.Goals as goal
 
 pub returns : goal.returns
 returns c =
-    λ x. standing_starts _ _ _ _ _ x _ c.requires.0 c.spare_of-spare.ensures (omega (arith, c.if-spare-eq0.false)) c.standing.ensures
+    λ x. standing_starts _ _ _ _ _ x _ c.args.seen.now.sound.fit.loads c.spare_of-spare.ensures (omega (arith, c.if-spare-eq0.false)) c.standing.ensures

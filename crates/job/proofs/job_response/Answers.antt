@@ -13,9 +13,9 @@ pub overflow_sub-result : goal.overflow_sub-result
 overflow_sub-result c =
     omega (arith, released_before_end _ c.args.seen.now.sound c.requires.counted, c.requires.end_value)
 
-pub returns-then-costs-s : goal.returns-then-costs-s
-returns-then-costs-s c =
-    job_without _ c.args.k c.requires.end_value (no_overrun _ c.args.seen.now.sound c.if-costs-s.true)
+pub returns-then-seen-own : goal.returns-then-seen-own
+returns-then-seen-own c =
+    job_without _ c.args.k c.requires.end_value (no_overrun _ c.args.seen.now.sound c.if-seen-own.true)
 
 pub overflow_cast-result : goal.overflow_cast-result
 overflow_cast-result c =
@@ -27,4 +27,4 @@ overflow_add-result c =
 
 pub returns : goal.returns
 returns c =
-    job_with _ c.args.k c.requires.end_value (some_overrun _ c.args.seen.now.sound c.if-costs-s.false) c.best_response-best.ensures
+    job_with _ c.args.k c.requires.end_value (some_overrun _ c.args.seen.now.sound c.if-seen-own.false) c.best_response-best.ensures
