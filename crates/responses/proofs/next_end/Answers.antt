@@ -1,10 +1,10 @@
 -- `responses::next_end` meets its contract: the search goes on from the last budget end, with or without a further start. Assumes nothing.
 use native.Mathlib.Omega.{arith}
-use Prim.Native.Nat.{◌+◌, ◌≤◌}
+use Prim.Native.Nat.{◌+◌}
 use Rattle.search.proofs.ClimbLaws.{starts_nowhere}
 use Rattle.responses.proofs.JobsLaws.{counted_before, job_small, ahead_within}
 use Rattle.job.proofs.WaitLaws.{next_after, next_down, next_found, starts_by_spare}
-use Rattle.responses.proofs.next_end.Goals.{then-spare-eq0, else-spare-eq0}
+use Rattle.responses.proofs.next_end.Goals.{in-Some, in-None}
 use Rattle.responses.proofs.next_end.Goals as goal
 
 pub overflow_add-k : goal.overflow_add-k
@@ -19,23 +19,23 @@ pub overflow_add-own : goal.overflow_add-own
 overflow_add-own c =
     record { fits = omega (arith, ahead_within _ c.args.seen.now.sound c.requires.counted c.args.seen.now.sound.own_cost) }
 
-pub overflow_add-own-else-spare-eq0 : goal.overflow_add-own-else-spare-eq0
-overflow_add-own-else-spare-eq0 c =
+pub overflow_add-own-in-Some : goal.overflow_add-own-in-Some
+overflow_add-own-in-Some c =
     record { fits = omega (arith, ahead_within _ c.args.seen.now.sound c.requires.counted c.args.seen.now.sound.own_cost) }
 
 pub standing-start-requires : goal.standing-start-requires
 standing-start-requires c =
-    (omega (arith, ahead_within _ c.args.seen.now.sound c.requires.counted c.args.seen.now.sound.own_cost), omega (arith, c.if-spare-eq0.false))
+    (omega (arith, ahead_within _ c.args.seen.now.sound c.requires.counted c.args.seen.now.sound.own_cost), (rw c.in-Some.is at c.requires.spare_value).0)
 
 pub least_within-requires : goal.least_within-requires
 least_within-requires c =
     let here = counted_before _ c.requires.counted in
     record {
       after = next_after _ c.args.seen.now.sound here c.requires.ended.is_end c.requires.ended.ends_at c.requires.ended.with_end c.args.seen.now.free
-          (elim c.if-spare-eq0.branch [
-            | then-spare-eq0 w ↦ rw w.start-is (starts_nowhere _ _)
-            | else-spare-eq0 w ↦ let some : 1 ≤ c.args.spare = omega (arith, w.if-spare-eq0.false) in
-                rw w.start-is (starts_by_spare _ c.args.seen.now.sound (c.args.k + 1) _ c.args.seen.now.sound.own_cost (c.requires.spare_value some) some w.standing-start.ensures)
+          (elim c.match-spare.branch [
+            | in-None w ↦ rw w.start-is (starts_nowhere _ _)
+            | in-Some w ↦ let told = rw w.in-Some.is at c.requires.spare_value in
+                rw w.start-is (starts_by_spare _ c.args.seen.now.sound (c.args.k + 1) _ c.args.seen.now.sound.own_cost told.1 told.0 w.standing-start.ensures)
           ]);
       comes_down = next_down _ c.args.seen.now.sound here c.requires.ended.is_end c.requires.counted;
     }
