@@ -102,7 +102,7 @@ module _ (v : View) where
           add-one l ∙ ap suc (sym (first_alone (response_with v k) (resources v) l a.within (not_held k) (omega (arith, there, u)))) ∙ resource_with v k more,
         )
 
--- The same as the code has it, which counts resources from 1.
+-- The same for a resource that is counted from 1, as rows have it.
 pub ends_done_lone : (v : View) {lone : ℕ} → 1 ≤ lone → Alone v.holdings v.ceilings v.place (lone - 1) → EndsDone v lone
 ends_done_lone v {lone} h a =
     let e : lone - 1 + 1 ≡ lone = omega arith in

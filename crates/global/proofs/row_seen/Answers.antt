@@ -35,8 +35,7 @@ returns-then-first-gt-HORIZON c =
 
 pub row_alone-requires : goal.row_alone-requires
 row_alone-requires c =
-    let some : 1 ≤ c.lone_on_the_way-res.result = omega (arith, c.if-res-ne0.true) in
-    record { le_lone = (some, c.lone_on_the_way-res.ensures some); first_end = first_end _ c.args.seen.now.sound c.least_after-first.ensures.found (omega (arith, c.least_after-first.ensures.ends_len_unchanged)) c.if-first-gt-HORIZON.false }
+    record { alone = rw c.in-Some.is at c.lone_on_the_way.ensures; first_end = first_end _ c.args.seen.now.sound c.least_after-first.ensures.found (omega (arith, c.least_after-first.ensures.ends_len_unchanged)) c.if-first-gt-HORIZON.false }
 
 pub row_by_jobs-requires : goal.row_by_jobs-requires
 row_by_jobs-requires c =
