@@ -6,3 +6,4 @@ pub mod Common
 pub mod Blocked
 pub mod Leading
 pub mod Sound
+pub mod Shown

@@ -4,7 +4,8 @@ ghost use Rattle.lists.specs.Range.{largest_to, padded};
 ghost use Rattle.least.specs.Share.{Fitting};
 ghost use Rattle.least.specs.Search.{Loads};
 ghost use Rattle.table.specs.Limits.{most};
-ghost use Rattle.outer.specs.Interfaces.{period_at, budget_at, held_at, interfaces_in};
+ghost use Rattle.outer.specs.Interfaces.{period_at, budget_at, held_at};
+ghost use Rattle.outer.specs.Shown.{shown_by};
 ghost use Rattle.outer.specs.Parts.{cost_of};
 ghost use Rattle.outer.specs.Blocked.{ceiling_in};
 ghost use Rattle.outer.specs.Common.{common_of};
@@ -79,7 +80,7 @@ fn cost(shown: &Shown, s: usize) -> u32
 
 // Budget and largest holding time of each subsystem, together.
 fn costs_of(shown: &Shown) -> [u32; Table::MOST]
-    ensures { result ≡ padded (cost_of (interfaces_in shown.now.n shown.now.m shown.now.lines.now)) 0 most shown.now.n }
+    ensures { result ≡ padded (cost_of (shown_by shown.now)) 0 most shown.now.n }
 {
     filled(shown.n, 0, |s| cost(shown, s))
 }
@@ -102,7 +103,7 @@ fn ceilings_of(shown: &Shown) -> [usize; Table::MOST]
 
 // What the rows of these interfaces share.
 pub fn in_common(shown: &Shown) -> Common
-    ensures { result ≡ common_of (interfaces_in shown.now.n shown.now.m shown.now.lines.now) }
+    ensures { result ≡ common_of (shown_by shown.now) }
 {
     let periods = periods_of(shown);
     let costs = costs_of(shown);

@@ -8,26 +8,11 @@ use Rattle.job.proofs.ActiveLaws.{active_within}
 use Rattle.job.proofs.LentLaws.{lent_sound, ahead_lent, jobs_before}
 use Rattle.ends.proofs.ahead_of_job.Goals as goal
 
-pub offset_bounds-common-s : goal.offset_bounds-common-s
-offset_bounds-common-s c =
-    let listed : c.args.s < most = omega (arith, few_of c.args.n c.args.m c.args.lines.now c.requires.sound, c.requires.s_lt_n) in
-    omega (arith, listed)
-
-pub bounds-common-s : goal.bounds-common-s
-bounds-common-s c =
-    let listed : c.args.s < most = omega (arith, few_of c.args.n c.args.m c.args.lines.now c.requires.sound, c.requires.s_lt_n) in
-    listed
-
 pub overflow_mul-before : goal.overflow_mul-before
 overflow_mul-before c =
-    omega (arith, jobs_before c.args.n c.args.m c.args.lines.now c.args.common c.requires.sound c.requires.common_value c.args.s c.requires.s_lt_n c.requires.counted, active_within _ (lent_sound c.args.n c.args.m c.args.lines.now c.args.common c.requires.sound c.requires.common_value c.args.s c.requires.s_lt_n) c.requires.counted.is_active)
-
-pub budget-requires : goal.budget-requires
-budget-requires c =
-    let listed : c.args.s < most = omega (arith, few_of c.args.n c.args.m c.args.lines.now c.requires.sound, c.requires.s_lt_n) in
-    listed
+    omega (arith, jobs_before c.args.known.now.shown.n c.args.known.now.shown.m c.args.known.now.shown.lines.now c.args.known.now.common.now c.args.known.now.shown.sound c.args.known.now.common_value c.args.s c.requires.s_lt_n c.requires.counted, active_within _ (lent_sound c.args.known.now.shown.n c.args.known.now.shown.m c.args.known.now.shown.lines.now c.args.known.now.common.now c.args.known.now.shown.sound c.args.known.now.common_value c.args.s c.requires.s_lt_n) c.requires.counted.is_active)
 
 pub returns : goal.returns
 returns c =
     ap₂ ◌+◌ (ap₂ ◌+◌ c.from.ensures c.from-2.ensures) c.from-3.ensures ∙
-    ahead_lent c.args.n c.args.m c.args.lines.now c.args.common c.requires.sound c.requires.common_value c.args.s c.requires.s_lt_n c.args.k c.blocking_in.ensures c.budget.ensures
+    ahead_lent c.args.known.now.shown.n c.args.known.now.shown.m c.args.known.now.shown.lines.now c.args.known.now.common.now c.args.known.now.shown.sound c.args.known.now.common_value c.args.s c.requires.s_lt_n c.args.k c.blocking_in.ensures c.budget.ensures

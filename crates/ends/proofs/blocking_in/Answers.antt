@@ -6,16 +6,6 @@ use Rattle.outer.proofs.Slots.{few_of}
 use Rattle.job.proofs.LentLaws as lent
 use Rattle.ends.proofs.blocking_in.Goals as goal
 
-pub offset_bounds-common-s : goal.offset_bounds-common-s
-offset_bounds-common-s c =
-    let listed : c.args.s < most = omega (arith, few_of c.args.n c.args.m c.args.lines.now c.requires.sound, c.requires.s_lt_n) in
-    omega (arith, listed)
-
-pub bounds-common-s : goal.bounds-common-s
-bounds-common-s c =
-    let listed : c.args.s < most = omega (arith, few_of c.args.n c.args.m c.args.lines.now c.requires.sound, c.requires.s_lt_n) in
-    listed
-
 pub returns : goal.returns
 returns c =
-    lent.blocking_lent c.args.n c.args.m c.args.lines.now c.args.common c.requires.sound c.requires.common_value c.args.s c.requires.s_lt_n
+    lent.blocking_lent c.args.known.now.shown.n c.args.known.now.shown.m c.args.known.now.shown.lines.now c.args.known.now.common.now c.args.known.now.shown.sound c.args.known.now.common_value c.args.s c.requires

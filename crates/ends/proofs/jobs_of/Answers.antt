@@ -10,67 +10,62 @@ use native.Mathlib.Omega.{arith}
 use Rattle.ends.proofs.Lending.{lending}
 use Rattle.ends.proofs.jobs_of.Goals as goal
 
-pub shared_ref_as_front-ends_at : goal.shared_ref_as_front-ends_at
-shared_ref_as_front-ends_at c =
-    let l = lending _ _ _ _ _ c.requires.sound c.requires.common_value c.requires.s_lt_n in
-    l.few
-
 pub ends_at-requires : goal.ends_at-requires
 unfolding view_of
 ends_at-requires c =
-    let l = lending _ _ _ _ _ c.requires.sound c.requires.common_value c.requires.s_lt_n in
+    let l = lending _ _ _ _ _ c.args.known.now.shown.sound c.args.known.now.common_value c.requires c.asking_of-asking.ensures.periods c.asking_of-asking.ensures.costs c.asking_of-asking.ensures.frees in
     record { periods = (fit_periods l.fits, omega (arith, l.listed), omega (arith, l.listed)); le_y = (omega arith, omega arith) }
 
 pub demand_in-once-requires : goal.demand_in-once-requires
 unfolding view_of
 demand_in-once-requires c =
-    let l = lending _ _ _ _ _ c.requires.sound c.requires.common_value c.requires.s_lt_n in
+    let l = lending _ _ _ _ _ c.args.known.now.shown.sound c.args.known.now.common_value c.requires c.asking_of-asking.ensures.periods c.asking_of-asking.ensures.costs c.asking_of-asking.ensures.frees in
     record { loads = l.fits.loads; le_x = (omega arith, omega arith) }
 
 pub overflow_cast-once : goal.overflow_cast-once
 unfolding view_of
 overflow_cast-once c =
-    let l = lending _ _ _ _ _ c.requires.sound c.requires.common_value c.requires.s_lt_n in
+    let l = lending _ _ _ _ _ c.args.known.now.shown.sound c.args.known.now.common_value c.requires c.asking_of-asking.ensures.periods c.asking_of-asking.ensures.costs c.asking_of-asking.ensures.frees in
     let fits_once = once_fits _ l.seen l.periods_lent l.costs_lent c.blocking_in-blocking.ensures c.demand_in-once.ensures.0 in
     omega (arith, fits_once.1)
 
 pub overflow_add-blocking : goal.overflow_add-blocking
 unfolding view_of
 overflow_add-blocking c =
-    let l = lending _ _ _ _ _ c.requires.sound c.requires.common_value c.requires.s_lt_n in
+    let l = lending _ _ _ _ _ c.args.known.now.shown.sound c.args.known.now.common_value c.requires c.asking_of-asking.ensures.periods c.asking_of-asking.ensures.costs c.asking_of-asking.ensures.frees in
     let fits_once = once_fits _ l.seen l.periods_lent l.costs_lent c.blocking_in-blocking.ensures c.demand_in-once.ensures.0 in
     record { fits = omega (arith, fits_once.1) }
 
 pub overflow_sub-blocking : goal.overflow_sub-blocking
 unfolding view_of
 overflow_sub-blocking c =
-    let l = lending _ _ _ _ _ c.requires.sound c.requires.common_value c.requires.s_lt_n in
+    let l = lending _ _ _ _ _ c.args.known.now.shown.sound c.args.known.now.common_value c.requires c.asking_of-asking.ensures.periods c.asking_of-asking.ensures.costs c.asking_of-asking.ensures.frees in
     let fits_once = once_fits _ l.seen l.periods_lent l.costs_lent c.blocking_in-blocking.ensures c.demand_in-once.ensures.0 in
     omega (arith, fits_once.0)
 
 pub least_after-active-requires : goal.least_after-active-requires
 unfolding view_of
 least_after-active-requires c =
-    let l = lending _ _ _ _ _ c.requires.sound c.requires.common_value c.requires.s_lt_n in
+    let l = lending _ _ _ _ _ c.args.known.now.shown.sound c.args.known.now.common_value c.requires c.asking_of-asking.ensures.periods c.asking_of-asking.ensures.costs c.asking_of-asking.ensures.frees in
     record { after = record { waits = active_lent _ l.seen l.periods_lent l.costs_lent c.blocking_in-blocking.ensures c.demand_in-once.ensures.0; free = l.frees_lent; with_end = omega (arith, l.listed, c.ends_at.ensures.1); ends_at = c.ends_at.ensures.0; starts = starts_nowhere _ _ }; bound_lt_reach = omega arith }
 
 pub returns-then-active-gt-HORIZON : goal.returns-then-active-gt-HORIZON
 unfolding view_of
 returns-then-active-gt-HORIZON c =
-    let l = lending _ _ _ _ _ c.requires.sound c.requires.common_value c.requires.s_lt_n in
+    let l = lending _ _ _ _ _ c.args.known.now.shown.sound c.args.known.now.common_value c.requires c.asking_of-asking.ensures.periods c.asking_of-asking.ensures.costs c.asking_of-asking.ensures.frees in
     let found = active_at _ l.seen l.periods_lent l.costs_lent c.blocking_in-blocking.ensures c.demand_in-once.ensures.0 c.least_after-active.ensures.found in
     jobs_without _ (found.beyond c.if-active-gt-HORIZON.true)
 
 pub round_up-requires : goal.round_up-requires
 unfolding view_of
 round_up-requires c =
-    let l = lending _ _ _ _ _ c.requires.sound c.requires.common_value c.requires.s_lt_n in
+    let l = lending _ _ _ _ _ c.args.known.now.shown.sound c.args.known.now.common_value c.requires c.asking_of-asking.ensures.periods c.asking_of-asking.ensures.costs c.asking_of-asking.ensures.frees in
     let found = active_at _ l.seen l.periods_lent l.costs_lent c.blocking_in-blocking.ensures c.demand_in-once.ensures.0 c.least_after-active.ensures.found in
-    (active_from _ l.seen (found.at c.if-active-gt-HORIZON.false), omega (arith, period_pos _ l.seen, lent.period_lent c.args.n c.args.m c.args.lines.now c.args.common c.requires.sound c.requires.common_value c.args.s c.requires.s_lt_n))
+    (active_from _ l.seen (found.at c.if-active-gt-HORIZON.false), omega (arith, period_pos _ l.seen, lent.period_lent c.args.known.now.shown.n c.args.known.now.shown.m c.args.known.now.shown.lines.now c.args.known.now.common.now c.args.known.now.shown.sound c.args.known.now.common_value c.args.s c.requires))
 
 pub returns : goal.returns
 unfolding view_of
 returns c =
-    let l = lending _ _ _ _ _ c.requires.sound c.requires.common_value c.requires.s_lt_n in
+    let l = lending _ _ _ _ _ c.args.known.now.shown.sound c.args.known.now.common_value c.requires c.asking_of-asking.ensures.periods c.asking_of-asking.ensures.costs c.asking_of-asking.ensures.frees in
     let found = active_at _ l.seen l.periods_lent l.costs_lent c.blocking_in-blocking.ensures c.demand_in-once.ensures.0 c.least_after-active.ensures.found in
-    jobs_with _ (found.at c.if-active-gt-HORIZON.false) (c.round_up.ensures ∙ ap (up _) (lent.period_lent c.args.n c.args.m c.args.lines.now c.args.common c.requires.sound c.requires.common_value c.args.s c.requires.s_lt_n))
+    jobs_with _ (found.at c.if-active-gt-HORIZON.false) (c.round_up.ensures ∙ ap (up _) (lent.period_lent c.args.known.now.shown.n c.args.known.now.shown.m c.args.known.now.shown.lines.now c.args.known.now.common.now c.args.known.now.shown.sound c.args.known.now.common_value c.args.s c.requires))
