@@ -16,13 +16,13 @@ ghost use Rattle.row.specs.Row.{judged, row_for, row_of};
 ghost use Rattle.outer.specs.Blocking.{blocking};
 ghost use Rattle.outer.specs.Common.{Lent};
 ghost use Rattle.job.specs.Seen.{view_in};
-ghost use Rattle.outer.specs.Sound.{Sound};
 ghost use Rattle.job.specs.Sound.{FirstEnd, Active};
 
 use done::{lone_on_the_way, nearly_all, on_the_way, row_alone, row_by_jobs};
 use job::{HORIZON, Own, Seen};
 use least::{REACH, round_up, standing};
-use outer::interfaces::{WIDTH, budget, period};
+use outer::Shown;
+use outer::interfaces::{budget, period};
 use outer::leading::leading;
 use responses::largest_response;
 use row::{Row, row_with, row_without};
@@ -141,12 +141,10 @@ fn row_seen(seen: &Seen, fits: usize) -> Row
     row_searched(seen, first, ends, far)
 }
 
-// The row of subsystem s, with the number of its first failing task, 0 for none. What all rows share is lent, since a struct would be
-// copied for each row; `blocked` is B(s), and the first `fits` subsystems ask for no more than every tick has.
+// The row of subsystem s, with the number of its first failing task, 0 for none. What all rows share is lent; `blocked` is B(s), and the
+// first `fits` subsystems ask for no more than every tick has.
 pub fn row_of(
-    lines: &[[u32; WIDTH]; Table::MOST],
-    n: usize,
-    m: usize,
+    shown: &Shown,
     asking: &Asking,
     ceilings: &[usize],
     blocked: u32,
@@ -154,23 +152,23 @@ pub fn row_of(
     s: usize,
     failing: u32,
 ) -> Row
-    requires sound { Sound (interfaces_in n m lines.now) × (s < n) }
-    requires lent { Lent (interfaces_in n m lines.now) asking.now.loads.periods.now asking.now.loads.costs.now ceilings.now }
+    requires s_lt_n { s < shown.now.n }
+    requires lent { Lent (interfaces_in shown.now.n shown.now.m shown.now.lines.now) asking.now.loads.periods.now asking.now.loads.costs.now ceilings.now }
     requires frees { Frees asking.now.loads.periods.now asking.now.loads.costs.now asking.now.frees.now (s + 1) }
-    requires blocked_value { (blocked ≡ blocking (interfaces_in n m lines.now) s) × Fitting asking.now.loads.periods.now asking.now.loads.costs.now n fits }
-    ensures { result ≡ row_of (interfaces_in n m lines.now) s failing }
+    requires blocked_value { (blocked ≡ blocking (interfaces_in shown.now.n shown.now.m shown.now.lines.now) s) × Fitting asking.now.loads.periods.now asking.now.loads.costs.now shown.now.n fits }
+    ensures { result ≡ row_of (interfaces_in shown.now.n shown.now.m shown.now.lines.now) s failing }
 {
-    let held = leading(lines, s, ceilings);
+    let held = leading(shown.lines, s, ceilings);
     let own = Own {
         place: s,
-        period: period(lines, s),
-        budget: budget(lines, s),
+        period: period(shown.lines, s),
+        budget: budget(shown.lines, s),
         blocking: blocked,
         failing,
     };
     let seen = Seen {
         asking: *asking,
-        holdings: &held[..m],
+        holdings: &held[..shown.m],
         ceilings,
         own,
     };
