@@ -10,10 +10,9 @@ use Rattle.table.specs.Limits.{most}
 use Rattle.table.specs.declared.Table.{Table}
 use Rattle.table.specs.Meaning.{System, meaning, MeanTheSame}
 use Rattle.table.specs.Parts.{subsystem_count}
-use Rattle.rules.specs.declared.Rule.{Rule}
-use Rattle.rules.specs.declared.Place.{Place}
-use Rattle.rules.specs.declared.Judged.{Judged}
-use Rattle.rules.specs.declared.Judged.TheVariants.{Admitted, Refused}
+use Rattle.std.specs.Prelude.{Err}
+use Rattle.rules.specs.declared.Broken.{Broken}
+use Rattle.rules.specs.Judged.{Judged, admitted}
 use Rattle.rules.specs.Rules.{judge_of}
 use Rattle.row.specs.declared.Row.{Row}
 use Rattle.report.specs.declared.Report.{Report}
@@ -27,23 +26,21 @@ report_of_lem sys j e = ap (λ (k : Judged). report_for k sys) e
 
 -- A refused system: the rule and the place, not accepted, and rows of zeros.
 pub refused_report :
-    (sys : System) (j : Judged) (k : Rule) (p : Place) (r : Report) → j ≡ judge_of sys → j ≡ Refused k p →
-    r ≡ record { judged = j; accepted = false; rows = replicate most no_row } → r ≡ report_of sys
-refused_report sys j k p r e q f =
-    f ∙ ap (λ (i : Judged). record { judged = i; accepted = false; rows = replicate most no_row }) q ∙
-    ap (λ (i : Judged). report_for i sys) (sym q) ∙ report_of_lem sys j e
+    (sys : System) (j : Judged) (broken : Broken) (r : Report) → j ≡ judge_of sys → j ≡ Err broken →
+    r ≡ record { judged = Err broken; accepted = false; rows = replicate most no_row } → r ≡ report_of sys
+refused_report sys j broken r e q f =
+    f ∙ ap (λ (i : Judged). report_for i sys) (sym q) ∙ report_of_lem sys j e
 
 -- An admitted system: its rows, and whether each is accepted.
 pub admitted_report :
-    (sys : System) (j : Judged) (acc : Bool) (rows : List Row) (n : ℕ) → j ≡ judge_of sys → j ≡ Admitted →
+    (sys : System) (j : Judged) (acc : Bool) (rows : List Row) (n : ℕ) → j ≡ judge_of sys → j ≡ admitted →
     subsystem_count sys ≡ n → rows ≡ padded (row_at sys) no_row most n → acc ≡ all_to (slot_accepted rows) n →
-    record { judged = j; accepted = acc; rows = rows } ≡ report_of sys
+    record { judged = admitted; accepted = acc; rows = rows } ≡ report_of sys
 unfolding accepted accepted_at
 admitted_report sys j acc rows n e a q r c =
     let x : acc ≡ accepted sys = c ∙ slots_are_rows (row_at sys) no_row n most rows r ∙ ap (all_to (accepted_at sys)) (sym q) in
     let y : rows ≡ padded (row_at sys) no_row most (subsystem_count sys) = r ∙ ap (padded (row_at sys) no_row most) (sym q) in
-    ap₂ (λ (i : Judged) (b : Bool). record { judged = i; accepted = b; rows = rows }) a x ∙
-    ap (λ (l : List Row). record { judged = Admitted; accepted = accepted sys; rows = l }) y ∙
+    ap₂ (λ (b : Bool) (l : List Row). record { judged = admitted; accepted = b; rows = l }) x y ∙
     ap (λ (i : Judged). report_for i sys) (sym a) ∙ report_of_lem sys j e
 
 -- Two tables that mean the same get the same report.

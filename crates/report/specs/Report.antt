@@ -1,11 +1,10 @@
 -- Acceptance (step 12) and the report, over what a table means; crate `rows` has the rows. Indices count from 0. Assumes nothing.
-use Rattle.std.specs.Prelude.{ℕ, Bool, true, false, ◌&&◌, eqb, List, get_or, replicate}
+use Rattle.std.specs.Prelude.{ℕ, Bool, true, false, ◌&&◌, eqb, List, get_or, replicate, Ok, Err}
 use Rattle.lists.specs.Range.{all_to, padded}
 use Rattle.table.specs.Limits.{most}
 use Rattle.table.specs.Meaning.{System}
 use Rattle.table.specs.Parts.{subsystem_count}
-use Rattle.rules.specs.declared.Judged.{Judged}
-use Rattle.rules.specs.declared.Judged.TheVariants.{Admitted, Refused}
+use Rattle.rules.specs.Judged.{Judged, admitted}
 use Rattle.rules.specs.Rules.{judge_of}
 use Rattle.row.specs.declared.Outcome.{Outcome}
 use Rattle.row.specs.declared.Outcome.TheVariants.{Fits, Late, None}
@@ -40,9 +39,9 @@ slot_accepted rows s = row_accepted (get_or rows s past_rows)
 
 -- The report of a system that was judged so.
 abbrev pub report_for : Judged → System → Report
-report_for (Refused k p) sys = record { judged = Refused k p; accepted = false; rows = replicate most no_row }
-report_for Admitted sys =
-    record { judged = Admitted; accepted = accepted sys; rows = padded (row_at sys) no_row most (subsystem_count sys) }
+report_for (Err r) sys = record { judged = Err r; accepted = false; rows = replicate most no_row }
+report_for (Ok _) sys =
+    record { judged = admitted; accepted = accepted sys; rows = padded (row_at sys) no_row most (subsystem_count sys) }
 
 -- The report of a system: refused with number and place and no figure, or its rows by subsystem.
 unfoldable pub report_of : System → Report

@@ -2,18 +2,16 @@
 // Every function here is proved, and the crate assumes nothing of its own.
 #![tactic(auto)]
 
-ghost use Rattle.std.specs.Prelude.{◌≡◌, false, replicate};
+ghost use Rattle.std.specs.Prelude.{◌≡◌, false, replicate, Err};
 ghost use Rattle.table.specs.Limits.{most};
 ghost use Rattle.table.specs.Meaning.{meaning};
 ghost use Rattle.table.specs.Grid.{system_in};
-ghost use Rattle.rules.specs.declared.Judged.TheVariants.{Admitted};
-ghost use Rattle.rules.specs.Rules.{counts_judged};
 ghost use Rattle.rows.specs.Rows.{no_row};
 ghost use Rattle.report.specs.Report.{report_of};
 
-use judge::{judge_counts, judge_grid};
+use judge::{Laid, judge_counts, judge_grid};
 use row::Row;
-use rules::Judged;
+use rules::{Broken, Judged};
 use table::Table;
 use table::grid::{BLOCK, LINE};
 
@@ -28,31 +26,29 @@ pub struct Report {
     pub rows: [Row; Table::MOST],
 }
 
-// The report of what is refused: the judgement, and no figure.
-fn without_figures(judged: Judged) -> Report
-    ensures { result ≡ record { judged = judged; accepted = false; rows = replicate most no_row } }
+// The report of what is refused: the rule and the place, and no figure.
+fn without_figures(broken: Broken) -> Report
+    ensures { result ≡ record { judged = Err broken; accepted = false; rows = replicate most no_row } }
 {
     Report {
-        judged,
+        judged: Err(broken),
         accepted: false,
         rows: [rows::no_row(); Table::MOST],
     }
 }
 
-// The report of a grid of n subsystems and m resources whose counts rule 1 has passed.
-pub fn report_of(grid: &[[[u32; LINE]; BLOCK]; Table::MOST], n: usize, m: usize) -> Report
-    requires { counts_judged (system_in n m grid.now) ≡ Admitted }
-    ensures { result ≡ report_of (system_in n m grid.now) }
+// The report of a table that is laid out in a grid, whose counts rule 1 has passed.
+pub fn report_of(laid: &Laid) -> Report
+    ensures { result ≡ report_of (system_in laid.now.n laid.now.m laid.now.grid.now) }
 {
     let mut holdings = [[0u64; Table::MOST]; Table::MOST];
-    let judged = judge_grid(grid, n, m, &mut holdings);
-    let Judged::Admitted = judged else {
-        return without_figures(judged);
-    };
-    let rows = rows::rows_of(grid, n, m, &holdings);
-    let accepted = accepting::all_accepted(rows, n);
+    if let Err(broken) = judge_grid(laid, &mut holdings) {
+        return without_figures(broken);
+    }
+    let rows = rows::rows_of(laid.grid, laid.n, laid.m, &holdings);
+    let accepted = accepting::all_accepted(rows, laid.n);
     Report {
-        judged,
+        judged: Ok(()),
         accepted,
         rows,
     }
@@ -62,11 +58,15 @@ pub fn report_of(grid: &[[[u32; LINE]; BLOCK]; Table::MOST], n: usize, m: usize)
 pub fn analyse(t: Table) -> Report
     ensures { result ≡ report_of (meaning t) }
 {
-    let counts = judge_counts(t);
-    let Judged::Admitted = counts else {
-        return without_figures(counts);
-    };
+    if let Err(broken) = judge_counts(t) {
+        return without_figures(broken);
+    }
     let mut grid = [[[0u32; LINE]; BLOCK]; Table::MOST];
     table::grid::lay_out(t, &mut grid);
-    report_of(&grid, usize::from(t.count), usize::from(t.resources))
+    let laid = Laid {
+        grid: &grid,
+        n: usize::from(t.count),
+        m: usize::from(t.resources),
+    };
+    report_of(&laid)
 }

@@ -7,18 +7,20 @@ use Rattle.rows.proofs.InterfaceLaws.{few_subsystems}
 use Rattle.report.proofs.ReportLaws.{refused_report, admitted_report}
 use Rattle.report.proofs.report_of.Goals as goal
 
-pub returns-in_default : goal.returns-in_default
-returns-in_default c =
-    refused_report _ _ _ _ _ c.judge_grid-judged.ensures.value c.in_default.is c.without_figures.ensures
+pub returns-in-Err : goal.returns-in-Err
+returns-in-Err c =
+    refused_report _ _ _ _ c.judge_grid.ensures.value c.in-Err.is c.without_figures.ensures
 
 pub rows_of-rows-requires : goal.rows_of-rows-requires
 rows_of-rows-requires c =
-    record { sound_system = admitted_is_sound _ (sym c.judge_grid-judged.ensures.value ∙ c.in-Admitted.is); held_in = c.judge_grid-judged.ensures.held_in c.in-Admitted.is }
+    record { sound_system = admitted_is_sound _ (sym c.judge_grid.ensures.value ∙ c.in_default.is); held_in = c.judge_grid.ensures.held_in c.in_default.is }
 
 pub all_accepted-accepted-requires : goal.all_accepted-accepted-requires
 all_accepted-accepted-requires c =
-    (few_subsystems c.args.n c.args.m c.args.grid.now (admitted_is_sound _ (sym c.judge_grid-judged.ensures.value ∙ c.in-Admitted.is))).0
+    let laid = c.args.laid.now in
+    (few_subsystems laid.n laid.m laid.grid.now (admitted_is_sound _ (sym c.judge_grid.ensures.value ∙ c.in_default.is))).0
 
 pub returns : goal.returns
 returns c =
-    admitted_report (system_in c.args.n c.args.m c.args.grid.now) _ _ _ _ c.judge_grid-judged.ensures.value c.in-Admitted.is (count_of_grid _ _ _) c.rows_of-rows.ensures c.all_accepted-accepted.ensures
+    let laid = c.args.laid.now in
+    admitted_report (system_in laid.n laid.m laid.grid.now) _ _ _ _ c.judge_grid.ensures.value c.in_default.is (count_of_grid _ _ _) c.rows_of-rows.ensures c.all_accepted-accepted.ensures
