@@ -1,5 +1,5 @@
 -- What the code lends for one subsystem is its view of the interfaces, with the resources that lead. Assumes nothing.
-use Prim.Native.Nat.{ℕ, ◌<◌}
+use Prim.Native.Nat.{ℕ, ◌≤◌, ◌<◌}
 use native.Mathlib.Omega.{arith}
 use mathlib.Core.Path.{◌≡◌, sym, ap, ap₂, ◌∙◌}
 use mathlib.Core.List.{List}
@@ -12,9 +12,11 @@ use Rattle.table.specs.Limits.{most}
 use Rattle.outer.specs.Interfaces.{InterfacesM, period_at, budget_at, held_at, interfaces_in}
 use Rattle.outer.specs.Parts.{count, periods, costs, period_of, budget_of}
 use Rattle.outer.specs.Blocking.{outer_ceiling, blocking}
+use Rattle.outer.specs.Common.{Lent}
 use Rattle.outer.specs.Leading.{beats, beaten_by, unbeaten, led, ceiling_at}
 use Rattle.outer.specs.Sound.{Sound}
-use Rattle.outer.proofs.Slots.{resources_of, period_of_slot, budget_of_slot, holding_of_slot}
+use Rattle.outer.proofs.Slots.{few_of, few_resources_of, count_of, resources_of, period_of_slot, budget_of_slot, holding_of_slot}
+use Rattle.outer.proofs.SharedLaws.{long_enough}
 use Rattle.outer.proofs.CommonLaws.{take_padded}
 use Rattle.row.specs.declared.Row.{Row}
 use Rattle.job.specs.declared.Own.{Own}
@@ -86,3 +88,39 @@ module _ (g : InterfacesM) (sound : Sound g) (s : ℕ) (h : s < count g) {p c x 
   seen_row failing e =
       e ∙ ap (λ (v : View). row_for v failing (active_period v)) seen_is ∙
       row_led (view_of g s) (view_sound g sound s h) failing
+
+-- Its own numbers, as one value.
+abbrev own_of : (s period budget blocked failing : ℕ) → Own
+own_of s period budget blocked failing = record { place = s; period = period; budget = budget; blocking = blocked; failing = failing }
+
+-- The same of what a row is lent: what the interfaces show, the lists that all rows share, and what is held of the resources that lead.
+module _ (n m : ℕ) (lines : List (List ℕ)) (sound : Sound (interfaces_in n m lines)) (s : ℕ) (h : s < n) {p c r : List ℕ} (lent : Lent (interfaces_in n m lines) p c r) where
+  pub in_lines : s < most
+  in_lines = omega (arith, few_of n m lines sound, h)
+
+  in_use : s < count (interfaces_in n m lines)
+  in_use = rw (count_of n m lines) h
+
+  ceilings_used : r ≡ up_to (outer_ceiling (interfaces_in n m lines)) m
+  ceilings_used = lent.ceilings_are ∙ ap (up_to (outer_ceiling (interfaces_in n m lines))) (resources_of n m lines)
+
+  ceilings_count : length r ≡ m
+  ceilings_count = ap length ceilings_used ∙ length_up_to _ _
+
+  pub few_ceilings : length r ≤ most
+  few_ceilings = omega (arith, ceilings_count, few_resources_of n m lines sound)
+
+  module _ {a : List ℕ} (q : a ≡ padded (led (held_at lines s) (ceiling_at r) (length r)) 0 most (length r)) where
+    pub held_long : m ≤ length a
+    held_long = omega (arith, ceilings_count, long_enough _ _ few_ceilings q)
+
+    module _ (f : ℕ) {period budget blocked : ℕ} (ep : period ≡ period_at lines s) (eq : budget ≡ budget_at lines s) (eb : blocked ≡ blocking (interfaces_in n m lines) s) where
+      pub lent_sound : SoundView (seen_by p c (take m a) r (own_of s period budget blocked f))
+      lent_sound =
+          seen_sound (interfaces_in n m lines) sound s in_use lent.periods_are lent.costs_are (led_part n m lines s h r ceilings_used q) lent.ceilings_are
+          (own_is n m lines s h {f = f} ep eq eb)
+
+      pub lent_row : {w : Row} → w ≡ row_for (seen_by p c (take m a) r (own_of s period budget blocked f)) f (active_period (seen_by p c (take m a) r (own_of s period budget blocked f))) → w ≡ row_of (interfaces_in n m lines) s f
+      lent_row e =
+          seen_row (interfaces_in n m lines) sound s in_use lent.periods_are lent.costs_are (led_part n m lines s h r ceilings_used q) lent.ceilings_are
+          (own_is n m lines s h {f = f} ep eq eb) f e

@@ -1,6 +1,5 @@
 -- `global::row_seen` meets its contract: it is known that there is no active period, or the first search finds no budget end; or nothing or
 -- one resource alone is held, and the jobs tell; or the active period is searched for. Assumes nothing.
-use Prim.Native.Nat.{◌≤◌}
 use mathlib.Core.Path.{◌∙◌}
 use Rattle.row.proofs.RowLaws.{budget_below, overrun_computed, row_without_lem}
 use Rattle.job.proofs.ResponseLaws.{no_overrun}
