@@ -1,5 +1,5 @@
 // The lines of refusal: of a refused table, and of a refused file. That there is room for a line is the caller's to show.
-ghost use Rattle.std.specs.Prelude.{◌≡◌, ◌+◌, ◌^◌, ◌≤◌, ◌<◌, length};
+ghost use Rattle.std.specs.Prelude.{◌≡◌, ◌+◌, ◌^◌, ◌≤◌, ◌<◌, length, Err};
 ghost use Rattle.rules.specs.Refusal.{refusal};
 ghost use Rattle.wording.specs.Lines.{refused_table, refused_file};
 ghost use Rattle.wording.specs.Room.{line_most};
@@ -7,18 +7,17 @@ ghost use Rattle.wording.specs.Wrote.{Wrote};
 
 use crate::line::put_figure;
 use lines::put_bytes;
-use rules::places::rule_number;
-use rules::{Judged, Place, Rule};
+use rules::Broken;
 use stored::FileRefusal;
 
-// The line of a table that is refused by a rule, at a place.
-pub fn put_refused_table(buf: &mut [u8], at: usize, rule: Rule, place: Place) -> usize
+// The line of a table that is refused, with the rule's number and the place.
+pub fn put_refused_table(buf: &mut [u8], at: usize, broken: Broken) -> usize
     requires { at + line_most ≤ length buf.old }
-    ensures { Wrote buf.old at (refused_table (refusal (Judged.Refused rule place))) buf.new result }
+    ensures { Wrote buf.old at (refused_table (refusal (Err broken))) buf.new result }
 {
-    let number = put_figure(buf, at, b"refused ", rule_number(rule));
-    let subsystem = put_figure(buf, number, b" at ", u32::from(place.subsystem));
-    let task = put_figure(buf, subsystem, b" ", u32::from(place.task));
+    let number = put_figure(buf, at, b"refused ", u32::from(broken.rule));
+    let subsystem = put_figure(buf, number, b" at ", u32::from(broken.place.subsystem));
+    let task = put_figure(buf, subsystem, b" ", u32::from(broken.place.task));
     put_bytes(buf, task, b"\n")
 }
 
