@@ -5,12 +5,11 @@ use mathlib.Core.Path.{◌≡◌, sym, ap}
 use mathlib.Core.Bool.{Bool, true, false}
 use mathlib.Core.List.{◌++◌}
 use lib.ListN.{length}
+use Rattle.std.specs.Prelude.{Err}
 use Rattle.lists.specs.Range.{join_to}
 use Rattle.lines.specs.Words.{word}
-use Rattle.rules.specs.declared.Rule.{Rule}
-use Rattle.rules.specs.declared.Place.{Place}
-use Rattle.rules.specs.declared.Judged.{Judged}
-use Rattle.rules.specs.declared.Judged.TheVariants.{Admitted, Refused}
+use Rattle.rules.specs.declared.Broken.{Broken}
+use Rattle.rules.specs.Judged.{Judged, admitted}
 use Rattle.rules.specs.Refusal.{refusal}
 use Rattle.report.specs.declared.Report.{Report}
 use Rattle.wording.specs.Lines.{refused_table, verdict}
@@ -22,10 +21,10 @@ verdict_most true = omega arith
 verdict_most false = omega arith
 
 module _ (report : Report) (n : ℕ) where
-  pub text_of_refused : (k : Rule) (p : Place) → report.judged ≡ Refused k p → refused_table (refusal (Refused k p)) ≡ report_text report n
+  pub text_of_refused : (broken : Broken) → report.judged ≡ Err broken → refused_table (refusal (Err broken)) ≡ report_text report n
   unfolding report_text
-  text_of_refused k p e = sym (ap (λ (j : Judged). text_for j report n) e)
+  text_of_refused broken e = sym (ap (λ (j : Judged). text_for j report n) e)
 
-  pub text_of_admitted : report.judged ≡ Admitted → verdict report.accepted ++ join_to (slot_line report.rows) n ≡ report_text report n
+  pub text_of_admitted : report.judged ≡ admitted → verdict report.accepted ++ join_to (slot_line report.rows) n ≡ report_text report n
   unfolding report_text
   text_of_admitted e = sym (ap (λ (j : Judged). text_for j report n) e)

@@ -4,27 +4,24 @@ use native.Mathlib.Omega.{arith}
 use mathlib.Core.Path.{◌≡◌, refl, sym, ap, ap₂, ◌∙◌}
 use mathlib.Core.List.{List}
 use lib.ListN.{length}
+use Rattle.std.specs.Prelude.{Result, Ok, Err, Option, Some, None}
 use borrow.Author.Tests.{lt-ltb, le-ltb}
 use Rattle.table.specs.Limits.{most}
 use Rattle.table.specs.Meaning.{System, meaning}
 use Rattle.table.specs.Parts.{subsystem_count}
 use Rattle.table.specs.Grid.{system_in}
 use Rattle.table.proofs.GridLaws.{count_of_grid}
-use Rattle.rules.specs.declared.Judged.{Judged}
-use Rattle.rules.specs.declared.Judged.TheVariants.{Admitted, Refused}
+use Rattle.rules.specs.Judged.{Judged, admitted}
 use Rattle.rules.specs.Rules.{judge_of}
 use Rattle.rules.proofs.Sound.{admitted_is_sound}
 use Rattle.report.specs.declared.Report.{Report}
 use Rattle.report.specs.Report.{report_for, report_of}
-use Rattle.stored.specs.declared.Fault.{Fault}
-use Rattle.stored.specs.declared.ReadAnswer.{ReadAnswer}
-use Rattle.stored.specs.declared.ReadAnswer.TheVariants.{Whole, Refused as RefusedFile}
+use Rattle.stored.specs.declared.Misread.{Misread}
+use Rattle.stored.specs.Answers.{ReadAnswer}
 use Rattle.reader.specs.declared.Head.{Head}
 use Rattle.stored.specs.declared.FileRefusal.{FileRefusal}
 use Rattle.stored.specs.Read.{file_refusal, read_of}
-use Rattle.reader.specs.Reader.{IsHead}
-use Rattle.text.specs.declared.Printed.{Printed}
-use Rattle.text.specs.declared.Printed.TheVariants.{Text, NoRoom}
+use Rattle.reader.specs.Reader.{answer_by, IsHead}
 use Rattle.wording.specs.Lines.{refused_file}
 use Rattle.wording.specs.Room.{text_room}
 use Rattle.text.specs.Text.{report_text, table_text, read_text, text_of, printed_of, left_by, buffer_after, IsPrinted}
@@ -39,15 +36,15 @@ unfolding report_of
 judged_in_report sys = by_cases (judge_of sys)
   where
     by_cases : (j : Judged) → (report_for j sys).judged ≡ j
-    by_cases Admitted = refl
-    by_cases (Refused k p) = refl
+    by_cases (Ok _) = refl
+    by_cases (Err r) = refl
 
 -- An admitted table has at most eight subsystems.
-pub admitted_count : (sys : System) → (report_of sys).judged ≡ Admitted → subsystem_count sys ≤ most
+pub admitted_count : (sys : System) → (report_of sys).judged ≡ admitted → subsystem_count sys ≤ most
 admitted_count sys e = (admitted_is_sound sys (sym (judged_in_report sys) ∙ e)).subsystems_most
 
 module _ (n m : ℕ) (grid : List (List (List ℕ))) (report : Report) (e : report ≡ report_of (system_in n m grid)) where
-  pub count_if_admitted : report.judged ≡ Admitted → n ≤ most
+  pub count_if_admitted : report.judged ≡ admitted → n ≤ most
   count_if_admitted g =
       rw (count_of_grid n m grid) at
       (admitted_count (system_in n m grid) (sym (ap (λ (r : Report). r.judged) e) ∙ g))
@@ -59,31 +56,33 @@ module _ (n m : ℕ) (grid : List (List (List ℕ))) (report : Report) (e : repo
 ------------------------------------------------------------------------
 -- A file
 
-module _ (file : List ℕ) (grid : List (List (List ℕ))) (head : Head) (h : IsHead file grid head) where
-  pub text_of_refused_file : (f : Fault) (at : ℕ) (r : FileRefusal) → head.answer ≡ RefusedFile f at → r ≡ file_refusal head.answer → refused_file r ≡ text_of file
-  unfolding text_of
-  text_of_refused_file f at r g e =
-      ap refused_file (e ∙ ap file_refusal g) ∙
-      sym (ap (λ (a : ReadAnswer). read_text a (read_of file).table) (sym h.answer_is ∙ g))
+module _ (file : List ℕ) (grid : List (List (List ℕ))) (read : Result Head Misread) (h : IsHead file grid read) where
+  pub answer_given : (r : Result Head Misread) → read ≡ r → answer_by r ≡ (read_of file).answer
+  answer_given r e = ap answer_by (sym e) ∙ h.answer_is
 
-  pub text_of_read_file : head.answer ≡ Whole → (sys : System) → sys ≡ meaning (read_of file).table → table_text sys ≡ text_of file
+  text_given : (r : Result Head Misread) → read ≡ r → read_text (answer_by r) (read_of file).table ≡ text_of file
   unfolding text_of
-  text_of_read_file g sys e =
-      ap table_text e ∙ sym (ap (λ (a : ReadAnswer). read_text a (read_of file).table) (sym h.answer_is ∙ g))
+  text_given r e = ap (λ (a : ReadAnswer). read_text a (read_of file).table) (answer_given r e)
+
+  pub text_of_refused_file : (why : Misread) (r : FileRefusal) → read ≡ Err why → r ≡ file_refusal (Err why) → refused_file r ≡ text_of file
+  text_of_refused_file why r g e = ap refused_file e ∙ text_given (Err why) g
+
+  pub text_of_read_file : (head : Head) → read ≡ Ok head → (sys : System) → sys ≡ meaning (read_of file).table → table_text sys ≡ text_of file
+  text_of_read_file head g sys e = ap table_text e ∙ text_given (Ok head) g
 
 ------------------------------------------------------------------------
 -- What a call prints
 
 module _ (file buf : List ℕ) where
-  pub nothing_printed : length buf < text_room → IsPrinted file buf buf NoRoom
+  pub nothing_printed : length buf < text_room → IsPrinted file buf buf None
   unfolding printed_of buffer_after
   nothing_printed h =
-      let e : NoRoom ≡ printed_of file (length buf) = rw (lt-ltb (length buf) text_room h) refl in
-      record { answered = e; left = ap (λ (p : Printed). left_by p (text_of file) buf) e }
+      let e : None ≡ printed_of file (length buf) = rw (lt-ltb (length buf) text_room h) refl in
+      record { answered = e; left = ap (λ (p : Option ℕ). left_by p (text_of file) buf) e }
 
-  pub text_printed : text_room ≤ length buf → (out : List ℕ) (r : ℕ) → Wrote buf 0 (text_of file) out r → IsPrinted file buf out (Text r)
+  pub text_printed : text_room ≤ length buf → (out : List ℕ) (r : ℕ) → Wrote buf 0 (text_of file) out r → IsPrinted file buf out (Some r)
   unfolding printed_of buffer_after
   text_printed h out r w =
       let n : r ≡ length (text_of file) = omega (arith, w.place) in
-      let e : Text r ≡ printed_of file (length buf) = rw (le-ltb (length buf) text_room h) (ap Text n) in
-      record { answered = e; left = w.holds ∙ ap (λ (p : Printed). left_by p (text_of file) buf) e }
+      let e : Some r ≡ printed_of file (length buf) = rw (le-ltb (length buf) text_room h) (ap Some n) in
+      record { answered = e; left = w.holds ∙ ap (λ (p : Option ℕ). left_by p (text_of file) buf) e }

@@ -6,19 +6,18 @@ use native.Mathlib.Omega.{arith}
 use mathlib.Core.Path.{◌≡◌, refl, sym, ap}
 use mathlib.Core.List.{List, [], ◌∷◌, ◌++◌, append_assoc, append-nil}
 use lib.ListN.{length, get_or, take, length-append}
+use Rattle.std.specs.Prelude.{Ok, Err}
 use Rattle.lists.specs.Range.{join_to}
 use Rattle.table.specs.Limits.{most}
 use Rattle.table.specs.Meaning.{System, meaning, MeanTheSame}
 use Rattle.table.specs.Parts.{subsystem_count}
 use Rattle.table.specs.declared.Table.{Table}
-use Rattle.rules.specs.declared.Judged.{Judged}
-use Rattle.rules.specs.declared.Judged.TheVariants.{Admitted, Refused}
+use Rattle.rules.specs.Judged.{Judged, admitted}
 use Rattle.rules.specs.Refusal.{Refusal, refusal}
 use Rattle.row.specs.declared.Row.{Row}
 use Rattle.report.specs.declared.Report.{Report}
 use Rattle.report.specs.Report.{past_rows, report_of}
-use Rattle.stored.specs.declared.ReadAnswer.{ReadAnswer}
-use Rattle.stored.specs.declared.ReadAnswer.TheVariants.{Whole, Refused as RefusedFile}
+use Rattle.stored.specs.Answers.{ReadAnswer}
 use Rattle.stored.specs.declared.Reading.{Reading}
 use Rattle.stored.specs.declared.FileRefusal.{FileRefusal}
 use Rattle.stored.specs.File.{enough}
@@ -52,13 +51,13 @@ lines_of_rows rows (suc n) before h =
     (one_more {ws = row_words n (get_or rows n past_rows)} (lines_of_rows rows n before h) (row_line_words n (get_or rows n past_rows)))
 
 -- A refused report is one line; any other is the verdict and a line for each subsystem.
-pub lines_of_refused : (report : Report) (n : ℕ) (j : Judged) → (j ≡ Admitted → ⊥) → Lines 1 (text_for j report n)
-lines_of_refused report n Admitted h = absurd (h refl)
-lines_of_refused report n (Refused k p) h =
-    let r = refusal (Refused k p) in
+pub lines_of_refused : (report : Report) (n : ℕ) (j : Judged) → (j ≡ admitted → ⊥) → Lines 1 (text_for j report n)
+lines_of_refused report n (Ok _) h = absurd (h refl)
+lines_of_refused report n (Err broken) h =
+    let r = refusal (Err broken) in
     one_line (refused_table_words r) (refused_table_line r) (refused_table_words_lem r)
 
-pub lines_of_admitted : (report : Report) (n : ℕ) → report.judged ≡ Admitted → Lines (suc n) (report_text report n)
+pub lines_of_admitted : (report : Report) (n : ℕ) → report.judged ≡ admitted → Lines (suc n) (report_text report n)
 unfolding report_text
 lines_of_admitted report n e =
     rw e
@@ -70,15 +69,15 @@ unfolding report_text
 lines_of_report report n = go report.judged refl
   where
     go : (j : Judged) → report.judged ≡ j → (k : ℕ) × Lines (suc k) (report_text report n)
-    go Admitted e = (n, lines_of_admitted report n e)
-    go (Refused k p) e =
-        (0, rw e (lines_of_refused report n (Refused k p) (λ q. let z : ◌≡◌ {A = ℕ} 0 1 = cc in omega arith)))
+    go (Ok _) e = (n, lines_of_admitted report n e)
+    go (Err broken) e =
+        (0, rw e (lines_of_refused report n (Err broken) (λ q. let z : ◌≡◌ {A = ℕ} 0 1 = cc in omega arith)))
 
 lines_of_answer : (a : ReadAnswer) (t : Table) → (k : ℕ) × Lines (suc k) (read_text a t)
 unfolding table_text
-lines_of_answer Whole t = lines_of_report (report_of (meaning t)) (subsystem_count (meaning t))
-lines_of_answer (RefusedFile f at) t =
-    let r = file_refusal (RefusedFile f at) in
+lines_of_answer (Ok _) t = lines_of_report (report_of (meaning t)) (subsystem_count (meaning t))
+lines_of_answer (Err why) t =
+    let r = file_refusal (Err why) in
     (0, one_line (refused_file_words r) (refused_file_line r) (refused_file_words_lem r))
 
 -- Every text is lines, at least one: words with one space between each and the next, and one LF.
@@ -108,24 +107,24 @@ refused_table_most r =
     (omega (arith, decimal_at_most_ten r.number, decimal_at_most_ten r.subsystem, decimal_at_most_ten r.task))
 
 -- A report on at most eight subsystems.
-pub report_most : (report : Report) (n : ℕ) → (report.judged ≡ Admitted → n ≤ most) → length (report_text report n) ≤ text_room
+pub report_most : (report : Report) (n : ℕ) → (report.judged ≡ admitted → n ≤ most) → length (report_text report n) ≤ text_room
 unfolding report_text
 report_most report n h = go report.judged refl
   where
     go : (j : Judged) → report.judged ≡ j → length (text_for report.judged report n) ≤ text_room
-    go Admitted e =
+    go (Ok _) e =
         let few = h e in
         rw e
         (simp length-append (omega (arith, verdict_most report.accepted, lines_most report.rows n)))
-    go (Refused k p) e = rw e (omega (arith, refused_table_most (refusal (Refused k p))))
+    go (Err broken) e = rw e (omega (arith, refused_table_most (refusal (Err broken))))
 
 pub table_most : (sys : System) → length (table_text sys) ≤ text_room
 unfolding table_text
 table_most sys = report_most (report_of sys) (subsystem_count sys) (admitted_count sys)
 
 answer_most : (a : ReadAnswer) (t : Table) → length (read_text a t) ≤ text_room
-answer_most Whole t = table_most (meaning t)
-answer_most (RefusedFile f at) t = omega (arith, refused_file_most (file_refusal (RefusedFile f at)))
+answer_most (Ok _) t = table_most (meaning t)
+answer_most (Err why) t = omega (arith, refused_file_most (file_refusal (Err why)))
 
 -- Every text fits the room.
 pub text_most : (file : List ℕ) → length (text_of file) ≤ text_room

@@ -9,9 +9,9 @@ use Rattle.text.proofs.RowsLaws.{lines_most}
 use Rattle.text.proofs.ReportLaws.{verdict_most, text_of_refused, text_of_admitted}
 use Rattle.text.proofs.put_report.Goals as goal
 
-pub returns-in-Refused : goal.returns-in-Refused
-returns-in-Refused c =
-    wrote_same (text_of_refused c.args.report c.args.n _ _ c.in-Refused.is) c.put_refused_table.ensures
+pub returns-in-Err : goal.returns-in-Err
+returns-in-Err c =
+    wrote_same (text_of_refused c.args.report c.args.n _ c.in-Err.is) c.put_refused_table.ensures
 
 pub put_rows-requires : goal.put_rows-requires
 put_rows-requires c =
