@@ -11,12 +11,12 @@ ghost use Rattle.outer.specs.Interfaces.{interfaces_in};
 ghost use Rattle.rows.specs.Interfaces.{interfaces_from};
 ghost use Rattle.rows.specs.Slots.{SoundSlot, Shows};
 
-use outer::interfaces::WIDTH;
+use outer::interfaces::{Lines, WIDTH};
 use table::Table;
-use table::grid::{BLOCK, LINE, budget, period};
+use table::grid::{Block, Grid, budget, period};
 
 // The interface of one subsystem.
-fn interface_of(block: &[[u32; LINE]; BLOCK], m: usize, held: &[u64; Table::MOST]) -> [u32; WIDTH]
+fn interface_of(block: &Block, m: usize, held: &[u64; Table::MOST]) -> [u32; WIDTH]
     requires sound_slot { SoundSlot block.now m }
     requires held_value { held.now ≡ padded (resource_holding (subsystem_in m block.now)) 0 most m }
     ensures { Shows m block.now result }
@@ -32,11 +32,11 @@ fn interface_of(block: &[[u32; LINE]; BLOCK], m: usize, held: &[u64; Table::MOST
 
 // The interfaces of all subsystems, whatever the lines held.
 pub fn interfaces_of(
-    grid: &[[[u32; LINE]; BLOCK]; Table::MOST],
+    grid: &Grid,
     n: usize,
     m: usize,
     holdings: &[[u64; Table::MOST]; Table::MOST],
-    lines: &mut [[u32; WIDTH]; Table::MOST],
+    lines: &mut Lines,
 )
     requires sound_system { SoundSystem (system_in n m grid.now) }
     requires held_in { HeldIn (system_in n m grid.now) holdings.now }

@@ -13,11 +13,15 @@ ghost use Rattle.rules.specs.Admitted.{SoundSystem};
 ghost use Rattle.rows.specs.Rows.{no_row, row_at};
 
 use crate::interface::interfaces_of;
+use holding::Part;
+use least::LoadList;
 use local::first_failing_task;
+use outer::Shown;
 use outer::interfaces::WIDTH;
 use row::{Outcome, Row};
+use search::Asking;
 use table::Table;
-use table::grid::{BLOCK, LINE, budget, period};
+use table::grid::{Grid, budget, period};
 
 // The row past the last subsystem.
 pub fn no_row() -> Row
@@ -38,7 +42,7 @@ pub fn no_row() -> Row
 // The rows of all subsystems, and rows of zeros behind them. The giving ends X ticks before the period, and Q + X is what
 // the rows share.
 pub fn rows_of(
-    grid: &[[[u32; LINE]; BLOCK]; Table::MOST],
+    grid: &Grid,
     n: usize,
     m: usize,
     holdings: &[[u64; Table::MOST]; Table::MOST],
@@ -49,26 +53,29 @@ pub fn rows_of(
 {
     let mut lines = [[0u32; WIDTH]; Table::MOST];
     interfaces_of(grid, n, m, holdings, &mut lines);
-    let common = outer::in_common(&lines, n, m);
-    let fits = outer::fitting_of(common, n);
+    let shown = Shown {
+        lines: &lines,
+        n,
+        m,
+    };
+    let common = outer::in_common(&shown);
+    let fits = outer::fitting_of(&common, n);
+    let asking = Asking {
+        loads: LoadList {
+            periods: &common.periods[..n],
+            costs: &common.costs[..n],
+        },
+        frees: &common.frees[..n],
+    };
+    let ceilings = &common.ceilings[..m];
     let mut rows = [no_row(); Table::MOST];
     for s in 0..n {
         let block = &grid[s];
+        let part = Part { block, m };
         let end = period(block) - (common.costs[s] - budget(block));
-        let failing = first_failing_task(block, m, &holdings[s], end);
-        rows[s] = global::row_of(
-            &lines,
-            n,
-            m,
-            &common.periods[..n],
-            &common.costs[..n],
-            &common.frees[..n],
-            &common.ceilings[..m],
-            common.blockings[s],
-            fits,
-            s,
-            failing as u32,
-        );
+        let failing = u32::from(first_failing_task(&part, &holdings[s], end));
+        let blocked = common.blockings[s];
+        rows[s] = global::row_of(&shown, &asking, ceilings, blocked, fits, s, failing);
     }
     rows
 }
