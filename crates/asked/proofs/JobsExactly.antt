@@ -10,8 +10,7 @@ use Rattle.lists.proofs.Over.{le_or_lt}
 use Rattle.table.specs.Meaning.{System}
 use Rattle.table.specs.Parts.{subsystem_count, subsystem_of}
 use Rattle.holding.specs.Holding.{resource_holding}
-use Rattle.rules.specs.declared.Judged.{Judged}
-use Rattle.rules.specs.declared.Judged.TheVariants.{Admitted, Refused}
+use Rattle.rules.specs.Judged.{Judged, admitted}
 use Rattle.rules.specs.Rules.{judge_of}
 use Rattle.outer.specs.Parts.{count}
 use Rattle.job.specs.View.{view_of, resources, held}
@@ -19,18 +18,17 @@ use Rattle.job.specs.Ends.{budget_end, job_end}
 use Rattle.job.specs.JobCount.{job_count}
 use Rattle.job.proofs.ViewLaws.{resources_seen, held_seen}
 use Rattle.job.proofs.EndsLaws.{counted_below, counted_is_below}
-use Rattle.asked.specs.declared.JobEnd.{JobEnd}
-use Rattle.asked.specs.declared.JobEnd.TheVariants.{At, Nothing}
+use Rattle.std.specs.Prelude.{Option, Some, None, Err, Ok}
 use Rattle.rows.specs.Interfaces.{interfaces_from}
 use Rattle.asked.specs.Jobs.{end_with, end_of, end_in, end_for, job_end_of, HasEnd}
 use Rattle.rows.proofs.SoundLaws.{count_of_interfaces, holding_shown}
 use Rattle.asked.proofs.JobsLaws.{held_past, ends_with_budget, ends_with_resource, ends_in}
 
-never : {e : ℕ} → Nothing ≡ At e → ⊥
+never : {e : ℕ} → None ≡ Some e → ⊥
 never q = let z : ◌≡◌ {A = ℕ} 0 1 = cc in omega arith
 
 -- An end that hangs on a test is there only where the test holds.
-tested : (b : Bool) {x : JobEnd} {e : ℕ} → cond b x Nothing ≡ At e → (b ≡ true) × (x ≡ At e)
+tested : (b : Bool) {x : Option ℕ} {e : ℕ} → cond b x None ≡ Some e → (b ≡ true) × (x ≡ Some e)
 tested true q = (refl, q)
 tested false q = absurd (never q)
 
@@ -52,7 +50,7 @@ module _ (sys : System) (s : ℕ) (h : s < subsystem_count sys) where
       (le_or_lt sys.resources l)
 
 module _ (sys : System) (k : ℕ) {e : ℕ} where
-  from_end : (s l : ℕ) → judge_of sys ≡ Admitted → s < subsystem_count sys → k < job_count (view_of (interfaces_from sys) s) → end_with (view_of (interfaces_from sys) s) k l ≡ At e → HasEnd sys (suc s) k l
+  from_end : (s l : ℕ) → judge_of sys ≡ admitted → s < subsystem_count sys → k < job_count (view_of (interfaces_from sys) s) → end_with (view_of (interfaces_from sys) s) k l ≡ Some e → HasEnd sys (suc s) k l
   unfolding end_with
   from_end s zero a h j q =
       let here : suc s - 1 ≡ s = omega arith in
@@ -77,11 +75,11 @@ module _ (sys : System) (k : ℕ) {e : ℕ} where
         held = λ _. rw (here, there) x;
       }
 
-  from_judged : (j : Judged) (s l : ℕ) → judge_of sys ≡ j → end_for j sys s k l ≡ At e → HasEnd sys s k l
+  from_judged : (j : Judged) (s l : ℕ) → judge_of sys ≡ j → end_for j sys s k l ≡ Some e → HasEnd sys s k l
   unfolding end_in end_of
-  from_judged (Refused rule place) s l p q = absurd (never q)
-  from_judged Admitted zero l p q = absurd (never q)
-  from_judged Admitted (suc s) l p q =
+  from_judged (Err r) s l p q = absurd (never q)
+  from_judged (Ok _) zero l p q = absurd (never q)
+  from_judged (Ok _) (suc s) l p q =
       let first = tested (ltb s (count (interfaces_from sys))) q in
       let second = tested (ltb k (job_count (view_of (interfaces_from sys) s))) first.1 in
       from_end s l p
@@ -90,20 +88,20 @@ module _ (sys : System) (k : ℕ) {e : ℕ} where
       second.1
 
   -- Where an end is given, the question has an answer.
-  pub end_means : (s l : ℕ) → job_end_of sys s k l ≡ At e → HasEnd sys s k l
+  pub end_means : (s l : ℕ) → job_end_of sys s k l ≡ Some e → HasEnd sys s k l
   unfolding job_end_of
   end_means s l q = from_judged (judge_of sys) s l refl q
 
 module _ (sys : System) (s k : ℕ) where
   -- F(k) where the budget's end is asked for.
-  pub budget_end_given : HasEnd sys s k 0 → job_end_of sys s k 0 ≡ At (budget_end (view_of (interfaces_from sys) (s - 1)) k)
+  pub budget_end_given : HasEnd sys s k 0 → job_end_of sys s k 0 ≡ Some (budget_end (view_of (interfaces_from sys) (s - 1)) k)
   budget_end_given a =
       sym
       (ends_in sys k 0 refl a.admitted s a.subsystem.0 (omega (arith, a.subsystem.1, count_of_interfaces sys))
       (ends_with_budget (view_of (interfaces_from sys) (s - 1)) k refl (counted_is_below (view_of (interfaces_from sys) (s - 1)) a.job) refl refl))
 
   -- The job end of step 10 where a resource is named.
-  pub job_end_given : (l : ℕ) → 1 ≤ l → HasEnd sys s k l → job_end_of sys s k l ≡ At (job_end (view_of (interfaces_from sys) (s - 1)) k (l - 1))
+  pub job_end_given : (l : ℕ) → 1 ≤ l → HasEnd sys s k l → job_end_of sys s k l ≡ Some (job_end (view_of (interfaces_from sys) (s - 1)) k (l - 1))
   job_end_given l u a =
       let w : s - 1 < subsystem_count sys = omega (arith, a.subsystem) in
       let x = held_here sys (s - 1) w (l - 1) (omega (arith, a.resource)) in
@@ -111,14 +109,14 @@ module _ (sys : System) (s k : ℕ) where
       (ends_in sys k l refl a.admitted s a.subsystem.0 (omega (arith, a.subsystem.1, count_of_interfaces sys))
       (ends_with_resource (view_of (interfaces_from sys) (s - 1)) k refl (counted_is_below (view_of (interfaces_from sys) (s - 1)) a.job) l u (omega (arith, x, a.held u)) refl))
 
-  some_end : (l : ℕ) → HasEnd sys s k l → (e : ℕ) × (job_end_of sys s k l ≡ At e)
+  some_end : (l : ℕ) → HasEnd sys s k l → (e : ℕ) × (job_end_of sys s k l ≡ Some e)
   some_end zero a = (_, budget_end_given a)
   some_end (suc l) a = (_, job_end_given (suc l) (omega arith) a)
 
   -- Nothing exactly where it has none.
-  pub nothing_exactly : (l : ℕ) → ((HasEnd sys s k l → ⊥) → job_end_of sys s k l ≡ Nothing) × (job_end_of sys s k l ≡ Nothing → HasEnd sys s k l → ⊥)
+  pub nothing_exactly : (l : ℕ) → ((HasEnd sys s k l → ⊥) → job_end_of sys s k l ≡ None) × (job_end_of sys s k l ≡ None → HasEnd sys s k l → ⊥)
   nothing_exactly l = (λ n. unless n (job_end_of sys s k l) refl, λ q a. never (sym q ∙ (some_end l a).1))
     where
-      unless : (HasEnd sys s k l → ⊥) → (r : JobEnd) → job_end_of sys s k l ≡ r → job_end_of sys s k l ≡ Nothing
-      unless n (At e) q = absurd (n (end_means sys k s l q))
-      unless n Nothing q = q
+      unless : (HasEnd sys s k l → ⊥) → (r : Option ℕ) → job_end_of sys s k l ≡ r → job_end_of sys s k l ≡ None
+      unless n (Some e) q = absurd (n (end_means sys k s l q))
+      unless n None q = q

@@ -12,8 +12,9 @@ use Rattle.table.specs.Limits.{most, largest}
 use Rattle.table.specs.Meaning.{SubsystemM, System}
 use Rattle.table.specs.Parts.{subsystem_count}
 use Rattle.table.specs.Grid.{period_in, budget_in, subsystem_in, block_in, system_in}
-use Rattle.table.proofs.GridLaws.{count_of_grid, resources_of_grid, subsystem_of_grid}
+use Rattle.table.proofs.GridLaws.{count_of_block, count_of_grid, resources_of_grid, subsystem_of_grid}
 use Rattle.holding.specs.Holding.{resource_holding, holding}
+use Rattle.holding.specs.Slots.{Counted}
 use Rattle.holding.specs.Held.{holdings_at, HeldIn}
 use Rattle.holding.proofs.HoldingLaws.{held_of_block}
 use Rattle.rules.specs.Admitted.{SoundSystem}
@@ -23,6 +24,15 @@ use Rattle.outer.proofs.Slots.{interface_is, interfaces_are}
 use Rattle.rows.specs.Interfaces.{interface_from, interface_at, interfaces_from}
 use Rattle.rows.specs.Slots.{SoundSlot, Shows}
 use Rattle.rows.proofs.SoundLaws.{interfaces_sound}
+
+-- A subsystem of an admitted table has counts that rule 1 has passed.
+pub slot_counted : (block : List (List ℕ)) (m : ℕ) → SoundSlot block m → Counted block m
+slot_counted block m slot =
+    record {
+      some_task = omega (arith, slot.sound.tasks_least, count_of_block m block);
+      tasks_most = omega (arith, slot.sound.tasks_most, count_of_block m block);
+      resources_most = slot.resources_most;
+    }
 
 -- A holding time is below the period, and so below a million.
 pub holding_small : (block : List (List ℕ)) (m : ℕ) → SoundSlot block m → (l : ℕ) → l < m → resource_holding (subsystem_in m block) l ≤ largest

@@ -73,9 +73,17 @@ pub fn rows_of(
         let block = &grid[s];
         let part = Part { block, m };
         let end = period(block) - (common.costs[s] - budget(block));
-        let failing = u32::from(first_failing_task(&part, &holdings[s], end));
+        let failing = first_failing_task(&part, &holdings[s], end);
         let blocked = common.blockings[s];
-        rows[s] = global::row_of(&shown, &asking, ceilings, blocked, fits, s, failing);
+        rows[s] = global::row_of(
+            &shown,
+            &asking,
+            ceilings,
+            blocked,
+            fits,
+            s,
+            u32::from(failing),
+        );
     }
     rows
 }

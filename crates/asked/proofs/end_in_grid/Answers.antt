@@ -22,25 +22,25 @@ returns-in_default c =
 pub returns-then-s-eq0 : goal.returns-then-s-eq0
 returns-then-s-eq0 c =
     (elim c.then-s-eq0.branch [
-      | then-s-eq0-via-then-s-eq0 w ↦ subsystem_0 _ c.args.k c.args.l c.judge_grid.ensures.value c.in-Admitted.is c.args.s w.if-s-eq0.true
-      | then-s-eq0-via-else-s-eq0+then-n-s w ↦ past_subsystems_lem _ c.args.k c.args.l c.judge_grid.ensures.value c.in-Admitted.is c.args.s (omega (arith, count_of_interfaces (system_in c.args.n c.args.m c.args.grid.now), count_of_grid c.args.n c.args.m c.args.grid.now, w.if-n-s.true))
+      | then-s-eq0-via-then-s-eq0 w ↦ subsystem_0 _ c.args.k c.args.l c.judge_grid.ensures.value c.in-Ok.is c.args.s w.if-s-eq0.true
+      | then-s-eq0-via-else-s-eq0+then-n-s w ↦ past_subsystems_lem _ c.args.k c.args.l c.judge_grid.ensures.value c.in-Ok.is c.args.s (omega (arith, count_of_interfaces (system_in c.args.laid.now.n c.args.laid.now.m c.args.laid.now.grid.now), count_of_grid c.args.laid.now.n c.args.laid.now.m c.args.laid.now.grid.now, w.if-n-s.true))
     ])
 
 pub interfaces_of-requires : goal.interfaces_of-requires
 interfaces_of-requires c =
-    record { sound_system = admitted_is_sound _ (sym c.judge_grid.ensures.value ∙ c.in-Admitted.is); held_in = c.judge_grid.ensures.held_in c.in-Admitted.is; lines_len = refl }
+    record { sound_system = admitted_is_sound _ (sym c.judge_grid.ensures.value ∙ c.in-Ok.is); held_in = c.judge_grid.ensures.held_in c.in-Ok.is; lines_len = refl }
 
 pub in_common-common-requires : goal.in_common-common-requires
 in_common-common-requires c =
-    sound_lines _ _ _ _ c.interfaces_of.ensures (admitted_is_sound _ (sym c.judge_grid.ensures.value ∙ c.in-Admitted.is))
+    sound_lines _ _ _ _ c.interfaces_of.ensures (admitted_is_sound _ (sym c.judge_grid.ensures.value ∙ c.in-Ok.is))
 
 pub end_of-requires : goal.end_of-requires
 end_of-requires c =
-    record { sound = sound_lines _ _ _ _ c.interfaces_of.ensures (admitted_is_sound _ (sym c.judge_grid.ensures.value ∙ c.in-Admitted.is)); common_value = c.in_common-common.ensures; s_lt_n = omega (arith, pos_of_ne-zero c.if-s-eq0.false, c.if-n-s.false) }
+    record { sound = sound_lines _ _ _ _ c.interfaces_of.ensures (admitted_is_sound _ (sym c.judge_grid.ensures.value ∙ c.in-Ok.is)); common_value = c.in_common-common.ensures; s_lt_n = omega (arith, pos_of_ne-zero c.if-s-eq0.false, c.if-n-s.false) }
 
 pub returns : goal.returns
 returns c =
-    let sys = system_in c.args.n c.args.m c.args.grid.now in
-    ends_in sys c.args.k c.args.l c.judge_grid.ensures.value c.in-Admitted.is c.args.s (pos_of_ne-zero c.if-s-eq0.false)
-    (omega (arith, count_of_interfaces sys, count_of_grid c.args.n c.args.m c.args.grid.now, c.if-n-s.false))
+    let sys = system_in c.args.laid.now.n c.args.laid.now.m c.args.laid.now.grid.now in
+    ends_in sys c.args.k c.args.l c.judge_grid.ensures.value c.in-Ok.is c.args.s (pos_of_ne-zero c.if-s-eq0.false)
+    (omega (arith, count_of_interfaces sys, count_of_grid c.args.laid.now.n c.args.laid.now.m c.args.laid.now.grid.now, c.if-n-s.false))
     (c.end_of.ensures ∙ ap (λ (g : InterfacesM). end_of (view_of g (c.args.s - 1)) c.args.k c.args.l) c.interfaces_of.ensures)

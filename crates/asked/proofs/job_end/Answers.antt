@@ -11,4 +11,4 @@ returns-in_default c =
 
 pub lay_out-requires : goal.lay_out-requires
 lay_out-requires c =
-    (has_room _ (sym c.judge_counts.ensures ∙ c.in-Admitted.is), blank_blocks)
+    (has_room _ (sym c.judge_counts.ensures ∙ c.in-Ok.is), blank_blocks)
