@@ -17,9 +17,8 @@ ghost use Rattle.job.specs.Sound.{Counted};
 
 mod known;
 
-pub use known::Known;
-
 use job::HORIZON;
+pub use known::Known;
 use least::{LoadList, round_up};
 use outer::interfaces;
 use search::{Asking, ends_at};

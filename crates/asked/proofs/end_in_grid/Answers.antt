@@ -7,6 +7,7 @@ use Rattle.table.specs.Grid.{system_in}
 use Rattle.table.proofs.GridLaws.{count_of_grid}
 use Rattle.rules.proofs.Sound.{admitted_is_sound}
 use Rattle.outer.specs.Interfaces.{InterfacesM}
+use Rattle.outer.proofs.Slots.{some_of, few_of, few_resources_of}
 use Rattle.job.specs.View.{view_of}
 use Rattle.asked.specs.Jobs.{end_of}
 use Rattle.rows.proofs.SoundLaws.{count_of_interfaces}
@@ -30,13 +31,14 @@ pub interfaces_of-requires : goal.interfaces_of-requires
 interfaces_of-requires c =
     record { sound_system = admitted_is_sound _ (sym c.judge_grid.ensures.value ∙ c.in-Ok.is); held_in = c.judge_grid.ensures.held_in c.in-Ok.is; lines_len = refl }
 
-pub in_common-common-requires : goal.in_common-common-requires
-in_common-common-requires c =
-    sound_lines _ _ _ _ c.interfaces_of.ensures (admitted_is_sound _ (sym c.judge_grid.ensures.value ∙ c.in-Ok.is))
+pub invariant_of-shown : goal.invariant_of-shown
+invariant_of-shown c =
+    let sound = sound_lines _ _ _ _ c.interfaces_of.ensures (admitted_is_sound _ (sym c.judge_grid.ensures.value ∙ c.in-Ok.is)) in
+    record { some = some_of _ _ _ sound; few = few_of _ _ _ sound; few_resources = few_resources_of _ _ _ sound; sound = sound }
 
 pub end_of-requires : goal.end_of-requires
 end_of-requires c =
-    record { sound = sound_lines _ _ _ _ c.interfaces_of.ensures (admitted_is_sound _ (sym c.judge_grid.ensures.value ∙ c.in-Ok.is)); common_value = c.in_common-common.ensures; s_lt_n = omega (arith, pos_of_ne-zero c.if-s-eq0.false, c.if-n-s.false) }
+    omega (arith, pos_of_ne-zero c.if-s-eq0.false, c.if-n-s.false)
 
 pub returns : goal.returns
 returns c =
