@@ -43,6 +43,7 @@ fn read_tasks(
     ensures { IsPart (tasks_refusal file.now m at) file.now m at block.new result }
 {
     let mut place = at + (START + SUBSYSTEM_LENGTH);
+    // By index, not over `&mut block[1..]`: the laws say what is read of the first i tasks of the whole block.
     for i in 0..n {
         let rest = &file[place..];
         let answer = judge(rest, TASK, TASK_START + NUMBER * m);
@@ -77,6 +78,7 @@ fn read_subsystems(file: &[u8], n: usize, m: usize, grid: &mut Grid) -> ReadAnsw
     ensures { IsBody file.now n m grid.new result }
 {
     let mut at = START + HEADER_LENGTH;
+    // By index, not over `&mut grid[..n]`: the laws say what is read of the first s subsystems of the whole grid.
     for s in 0..n {
         at = read_subsystem(file, at, m, &mut grid[s])?;
     }
@@ -92,6 +94,7 @@ pub fn read_grid(file: &[u8], grid: &mut Grid) -> Result<Head, Misread>
     requires { HasBlocks grid.old }
     ensures { IsHead file.now grid.new result }
 {
+    // The part from the current offset on, as at every field; here the offset is 0.
     let rest = &file[0..];
     let answer = judge_header(rest);
     let Ok(len) = answer else {

@@ -28,6 +28,7 @@ pub fn file_length(t: Table) -> usize
     let m = usize::from(t.resources);
     let task_size = START + (TASK_START + NUMBER * m);
     let mut total = START + HEADER_LENGTH;
+    // By index: the count may lie past the last slot, and a slice up to it would not be there.
     for s in 0..usize::from(t.count) {
         let tasks = if s < Table::MOST {
             usize::from(t.subsystems[s].count)
