@@ -4,19 +4,18 @@ use mathlib.Core.Path.{◌≡◌, refl, ap, ap₂, ◌∙◌}
 use mathlib.Core.Bool.{Bool}
 use mathlib.Core.List.{List, flat_map}
 use lib.ListN.{length, length-append, length-replicate}
+use Rattle.std.specs.Prelude.{Ok, Err}
 use Rattle.lists.proofs.UpTo.{length_padded}
 use Rattle.table.specs.Limits.{most}
 use Rattle.table.specs.Meaning.{System, meaning}
 use Rattle.table.specs.Parts.{subsystem_count}
-use Rattle.rules.specs.declared.Judged.{Judged}
-use Rattle.rules.specs.declared.Judged.TheVariants.{Admitted, Refused}
+use Rattle.rules.specs.Judged.{Judged}
 use Rattle.rules.specs.Rules.{judge_of}
 use Rattle.rules.proofs.Sound.{admitted_is_sound}
 use Rattle.row.specs.declared.Row.{Row}
 use Rattle.rows.specs.Rows.{row_at, no_row}
 use Rattle.report.specs.Report.{report_for, report_of}
-use Rattle.stored.specs.declared.ReadAnswer.{ReadAnswer}
-use Rattle.stored.specs.declared.ReadAnswer.TheVariants.{Whole, Refused as RefusedFile}
+use Rattle.stored.specs.Answers.{ReadAnswer}
 use Rattle.stored.specs.File.{number_bytes}
 use Rattle.stored.specs.Numbers.{number_size}
 use Rattle.stored.specs.Read.{read_of}
@@ -31,8 +30,8 @@ unfolding report_of
 rows_are_eight sys = by_cases (judge_of sys) refl
   where
     by_cases : (j : Judged) → judge_of sys ≡ j → length (report_for j sys).rows ≡ most
-    by_cases (Refused k p) e = length-replicate most no_row
-    by_cases Admitted e =
+    by_cases (Err r) e = length-replicate most no_row
+    by_cases (Ok _) e =
         length_padded (row_at sys) no_row most (subsystem_count sys) (admitted_is_sound sys e).subsystems_most
 
 module _ (j : Judgement) (accepted : Bool) (n : ℕ) (rows : List Row) where
@@ -48,8 +47,8 @@ unfolding figures_in figures_of
 count_of_file_figures file = by_cases (read_of file).answer
   where
     by_cases : (a : ReadAnswer) → length (figures_for a (meaning (read_of file).table)) ≡ head_count + most * row_count
-    by_cases (RefusedFile f at) = count_of_figures _ _ _ _ (length-replicate most no_row)
-    by_cases Whole = count_of_figures _ _ _ _ (rows_are_eight (meaning (read_of file).table))
+    by_cases (Err r) = count_of_figures _ _ _ _ (length-replicate most no_row)
+    by_cases (Ok _) = count_of_figures _ _ _ _ (rows_are_eight (meaning (read_of file).table))
 
 -- So many bytes they take.
 pub length_of_file_figures : (file : List ℕ) → length (flat_map number_bytes (figures_in file)) ≡ report_size

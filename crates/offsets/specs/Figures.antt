@@ -1,11 +1,10 @@
 -- A report's figures, in the order in which they stand in a lent buffer, and how many bytes they take. Assumes nothing.
-use Rattle.std.specs.Prelude.{ℕ, ◌+◌, ◌*◌, Bool, true, false, replicate}
+use Rattle.std.specs.Prelude.{ℕ, ◌+◌, ◌*◌, Bool, true, false, replicate, Ok, Err}
 use mathlib.Core.List.{List, [], ◌∷◌, ◌++◌, flat_map}
 use Rattle.table.specs.Limits.{most}
 use Rattle.table.specs.Meaning.{System, meaning}
 use Rattle.table.specs.Parts.{subsystem_count}
-use Rattle.rules.specs.declared.Judged.{Judged}
-use Rattle.rules.specs.declared.Judged.TheVariants.{Admitted, Refused}
+use Rattle.rules.specs.Judged.{Judged}
 use Rattle.row.specs.declared.Outcome.{Outcome}
 use Rattle.row.specs.declared.Outcome.TheVariants.{Fits, Late, None}
 use Rattle.row.specs.declared.Row.{Row}
@@ -13,8 +12,7 @@ use Rattle.row.specs.Row.{reported}
 use Rattle.report.specs.declared.Report.{Report}
 use Rattle.rows.specs.Rows.{no_row}
 use Rattle.report.specs.Report.{report_of}
-use Rattle.stored.specs.declared.ReadAnswer.{ReadAnswer}
-use Rattle.stored.specs.declared.ReadAnswer.TheVariants.{Whole, Refused as RefusedFile}
+use Rattle.stored.specs.Answers.{ReadAnswer}
 use Rattle.stored.specs.Numbers.{number_size}
 use Rattle.stored.specs.Read.{file_refusal, read_of}
 use Rattle.offsets.specs.declared.Judgement.{Judgement}
@@ -54,8 +52,8 @@ figures j accepted n rows = head_figures j accepted n ++ flat_map row_figures ro
 
 -- N as a report states it: a refused table has zero in every figure.
 abbrev pub counted : Judged → ℕ → ℕ
-counted (Refused k p) n = 0
-counted Admitted n = n
+counted (Err _) n = 0
+counted (Ok _) n = n
 
 -- The figures of a report on n subsystems.
 unfoldable pub figures_of : Report → ℕ → List ℕ
@@ -64,8 +62,8 @@ figures_of report n =
 
 -- The figures of a file that was read so, with what its table means.
 abbrev pub figures_for : ReadAnswer → System → List ℕ
-figures_for (RefusedFile f at) sys = figures (file_judgement (file_refusal (RefusedFile f at))) false 0 (replicate most no_row)
-figures_for Whole sys = figures_of (report_of sys) (subsystem_count sys)
+figures_for (Err r) sys = figures (file_judgement (file_refusal (Err r))) false 0 (replicate most no_row)
+figures_for (Ok _) sys = figures_of (report_of sys) (subsystem_count sys)
 
 unfoldable pub figures_in : List ℕ → List ℕ
 figures_in file = figures_for (read_of file).answer (meaning (read_of file).table)

@@ -1,13 +1,12 @@
 -- The judgement of a file: document 01's number and the two numbers of its place, and these as bytes. Assumes nothing.
-use Rattle.std.specs.Prelude.{ℕ, ◌*◌}
+use Rattle.std.specs.Prelude.{ℕ, ◌*◌, Ok, Err}
 use mathlib.Core.List.{List, [], ◌∷◌, flat_map}
 use Rattle.table.specs.Meaning.{System, meaning}
-use Rattle.rules.specs.declared.Judged.{Judged}
+use Rattle.rules.specs.Judged.{Judged}
 use Rattle.rules.specs.Refusal.{refusal}
 use Rattle.rules.specs.Rules.{judge_of}
 use Rattle.stored.specs.declared.FileRefusal.{FileRefusal}
-use Rattle.stored.specs.declared.ReadAnswer.{ReadAnswer}
-use Rattle.stored.specs.declared.ReadAnswer.TheVariants.{Whole, Refused}
+use Rattle.stored.specs.Answers.{ReadAnswer}
 use Rattle.stored.specs.Numbers.{number_size}
 use Rattle.stored.specs.File.{number_bytes}
 use Rattle.stored.specs.Read.{file_refusal, read_of}
@@ -24,8 +23,8 @@ table_judgement j =
 
 -- A file that was read so, with what its table means.
 abbrev pub judgement_for : ReadAnswer → System → Judgement
-judgement_for (Refused f at) sys = file_judgement (file_refusal (Refused f at))
-judgement_for Whole sys = table_judgement (judge_of sys)
+judgement_for (Err r) sys = file_judgement (file_refusal (Err r))
+judgement_for (Ok _) sys = table_judgement (judge_of sys)
 
 unfoldable pub judgement_of : List ℕ → Judgement
 judgement_of file = judgement_for (read_of file).answer (meaning (read_of file).table)

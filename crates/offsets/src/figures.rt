@@ -11,11 +11,11 @@ ghost use Rattle.offsets.specs.Judgement.{place_size, place_bytes};
 
 use crate::Judgement;
 use crate::judging::{file_judgement, table_judgement};
+use judge::Laid;
 use report::Report;
 use row::{Outcome, Row};
 use rows::no_row;
 use rules::Judged;
-use stored::ReadAnswer;
 use stored::number::put_number;
 use table::Table;
 use table::grid::{BLOCK, LINE};
@@ -49,8 +49,8 @@ fn stated_count(judged: Judged, n: u8) -> u32
     ensures { result ≡ counted judged n }
 {
     match judged {
-        Judged::Admitted => u32::from(n),
-        Judged::Refused(_, _) => 0,
+        Ok(()) => u32::from(n),
+        Err(_) => 0,
     }
 }
 
@@ -138,13 +138,20 @@ pub fn put_file(free: &mut [u8], file: &[u8]) -> usize
     ensures { IsPut (flat_map number_bytes (figures_in file.now)) free.old free.new result }
 {
     let mut grid = [[[0u32; LINE]; BLOCK]; Table::MOST];
-    let head = reader::read_grid(file, &mut grid);
-    let ReadAnswer::Whole = head.answer else {
-        let j = file_judgement(stored::file_refusal(head.answer));
-        return put_figures(free, j, false, 0, [no_row(); Table::MOST]);
-    };
-    let report = report::report_of(&grid, usize::from(head.count), usize::from(head.resources));
-    put_report(free, report, head.count)
+    match reader::read_grid(file, &mut grid) {
+        Err(misread) => {
+            let j = file_judgement(stored::file_refusal(Err(misread)));
+            put_figures(free, j, false, 0, [no_row(); Table::MOST])
+        }
+        Ok(head) => {
+            let laid = Laid {
+                grid: &grid,
+                n: usize::from(head.count),
+                m: usize::from(head.resources),
+            };
+            put_report(free, report::report_of(&laid), head.count)
+        }
+    }
 }
 
 // The two numbers of a judgement's place.

@@ -3,10 +3,9 @@ ghost use Rattle.std.specs.Prelude.{◌≡◌, ◌<◌, ◌^◌};
 ghost use Rattle.offsets.specs.Judgement.{file_judgement, table_judgement, judgement_of};
 
 use crate::Judgement;
-use judge::judge_grid;
+use judge::{Laid, judge_grid};
 use rules::Judged;
-use rules::places::rule_number;
-use stored::{FileRefusal, ReadAnswer};
+use stored::FileRefusal;
 use table::Table;
 use table::grid::{BLOCK, LINE};
 
@@ -27,15 +26,15 @@ pub fn table_judgement(judged: Judged) -> Judgement
     ensures { result ≡ table_judgement judged }
 {
     match judged {
-        Judged::Admitted => Judgement {
+        Ok(()) => Judgement {
             number: 0,
             first: 0,
             second: 0,
         },
-        Judged::Refused(rule, place) => Judgement {
-            number: rule_number(rule),
-            first: u32::from(place.subsystem),
-            second: u32::from(place.task),
+        Err(broken) => Judgement {
+            number: u32::from(broken.rule),
+            first: u32::from(broken.place.subsystem),
+            second: u32::from(broken.place.task),
         },
     }
 }
@@ -45,16 +44,16 @@ pub fn judge_file(file: &[u8]) -> Judgement
     ensures { result ≡ judgement_of file.now }
 {
     let mut grid = [[[0u32; LINE]; BLOCK]; Table::MOST];
-    let head = reader::read_grid(file, &mut grid);
-    let ReadAnswer::Whole = head.answer else {
-        return file_judgement(stored::file_refusal(head.answer));
-    };
-    let mut holdings = [[0u64; Table::MOST]; Table::MOST];
-    let judged = judge_grid(
-        &grid,
-        usize::from(head.count),
-        usize::from(head.resources),
-        &mut holdings,
-    );
-    table_judgement(judged)
+    match reader::read_grid(file, &mut grid) {
+        Err(misread) => file_judgement(stored::file_refusal(Err(misread))),
+        Ok(head) => {
+            let laid = Laid {
+                grid: &grid,
+                n: usize::from(head.count),
+                m: usize::from(head.resources),
+            };
+            let mut holdings = [[0u64; Table::MOST]; Table::MOST];
+            table_judgement(judge_grid(&laid, &mut holdings))
+        }
+    }
 }

@@ -1,27 +1,30 @@
 -- `offsets::judging::judge_file` meets its contract. Assumes nothing.
-use mathlib.Core.Path.{refl}
+use mathlib.Core.Path.{refl, sym, ap}
 use Rattle.table.proofs.GridLaws.{blank_blocks}
+use Rattle.reader.specs.Reader.{answer_by}
 use Rattle.reader.proofs.WholeGrids.{grid_means_table, grid_counts_pass}
 use Rattle.stored.proofs.OffsetLaws.{offset_fits}
-use Rattle.offsets.proofs.JudgementLaws.{judgement_of_refused, judgement_of_read}
+use Rattle.offsets.proofs.JudgementLaws.{answer_of, judgement_of_refused, judgement_of_read}
 use Rattle.offsets.proofs.judging.judge_file.Goals as goal
 
-pub read_grid-head-requires : goal.read_grid-head-requires
-read_grid-head-requires c =
+pub read_grid-requires : goal.read_grid-requires
+read_grid-requires c =
     blank_blocks
 
 pub file_judgement-requires : goal.file_judgement-requires
 file_judgement-requires c =
-    offset_fits _ _ _ c.read_grid-head.ensures.answer_is c.file_refusal.ensures
+    let answer = answer_of _ _ c.read_grid.ensures.answer_is _ (ap answer_by c.in-Err.is) in
+    offset_fits _ _ _ (sym answer) c.file_refusal.ensures
 
-pub returns-in_default : goal.returns-in_default
-returns-in_default c =
-    judgement_of_refused _ _ c.read_grid-head.ensures.answer_is _ _ _ _ c.in_default.is c.file_refusal.ensures c.file_judgement.ensures
+pub returns-in-Err : goal.returns-in-Err
+returns-in-Err c =
+    judgement_of_refused _ _ c.read_grid.ensures.answer_is _ _ _ (ap answer_by c.in-Err.is) c.file_refusal.ensures c.file_judgement.ensures
 
-pub judge_grid-judged-requires : goal.judge_grid-judged-requires
-judge_grid-judged-requires c =
-    record { grid_value = grid_counts_pass _ _ _ c.read_grid-head.ensures c.in-Whole.is _ _ c.from.ensures c.from-2.ensures; holdings_value = refl }
+pub invariant_of-laid : goal.invariant_of-laid
+invariant_of-laid c =
+    record { counted = grid_counts_pass _ _ _ c.read_grid.ensures _ c.in-Ok.is _ _ c.from.ensures c.from-in-Ok.ensures }
 
-pub returns : goal.returns
-returns c =
-    judgement_of_read _ _ c.read_grid-head.ensures.answer_is _ _ _ c.in-Whole.is (grid_means_table _ _ _ c.read_grid-head.ensures c.in-Whole.is _ _ c.from.ensures c.from-2.ensures) c.judge_grid-judged.ensures.value c.table_judgement.ensures
+pub returns-in-Ok : goal.returns-in-Ok
+returns-in-Ok c =
+    let means = grid_means_table _ _ _ c.read_grid.ensures _ c.in-Ok.is _ _ c.from.ensures c.from-in-Ok.ensures in
+    judgement_of_read _ _ c.read_grid.ensures.answer_is _ _ _ (ap answer_by c.in-Ok.is) means c.judge_grid.ensures.value c.table_judgement.ensures

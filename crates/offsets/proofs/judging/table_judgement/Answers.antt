@@ -2,10 +2,10 @@
 use Rattle.offsets.proofs.JudgementLaws.{admitted_judgement, refused_judgement}
 use Rattle.offsets.proofs.judging.table_judgement.Goals as goal
 
-pub returns-in-Admitted : goal.returns-in-Admitted
-returns-in-Admitted c =
-    admitted_judgement _ c.in-Admitted.is
+pub returns-in-Ok : goal.returns-in-Ok
+returns-in-Ok c =
+    admitted_judgement _ c.in-Ok.is
 
-pub returns-in-Refused : goal.returns-in-Refused
-returns-in-Refused c =
-    rw (c.from.ensures, c.from-in-Refused.ensures) (refused_judgement _ _ _ _ c.in-Refused.is c.rule_number.ensures)
+pub returns-in-Err : goal.returns-in-Err
+returns-in-Err c =
+    rw (c.from-in-Err.ensures, c.from-in-Err-2.ensures) (refused_judgement _ _ _ c.in-Err.is c.from.ensures)
