@@ -23,7 +23,9 @@ pub mod passing;
 // Whether task i passes, from its blocking and the numbers of the tasks above it.
 fn task_passes(part: &Part, end: u32, i: usize, blocked: u32, tasks: &LoadList) -> bool
     requires ready { Ready part.now.block.now part.now.m end }
-    requires i_bound { (i < count_in part.now.block.now) × (blocked ≡ task_blocking part.now.m (subsystem_in part.now.m part.now.block.now) i) × TakenOut part.now.block.now tasks.now.periods.now tasks.now.costs.now i }
+    requires i_bound { i < count_in part.now.block.now }
+    requires blocked_value { blocked ≡ task_blocking part.now.m (subsystem_in part.now.m part.now.block.now) i }
+    requires taken_out { TakenOut part.now.block.now tasks.now.periods.now tasks.now.costs.now i }
     ensures { result ≡ task_passes part.now.m (subsystem_in part.now.m part.now.block.now) end i }
 {
     let constant = u64::from(blocked) + u64::from(work(part.block, i));

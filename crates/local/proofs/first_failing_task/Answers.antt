@@ -20,10 +20,10 @@ loop-i-init c = (
   failing_from_zero _ _ _,
 )
 
-pub task_passes-requires-clause-i_bound : goal.task_passes-requires-clause-i_bound
-task_passes-requires-clause-i_bound c =
-    let below : c.loop-i.i < count_in c.args.part.now.block.now = omega (arith, c.count-i-end.ensures) in
-    (below, blocking_read (subsystem_in c.args.part.now.m c.args.part.now.block.now) c.args.part.now.m (count_in c.args.part.now.block.now) c.loop-i.i _ c.task_blockings-blockings.ensures below, c.loop-i.invariant.1)
+pub task_passes-requires-clause-blocked_value : goal.task_passes-requires-clause-blocked_value
+task_passes-requires-clause-blocked_value c =
+    let part = c.args.part.now in
+    blocking_read (subsystem_in part.m part.block.now) part.m (count_in part.block.now) c.loop-i.i _ c.task_blockings-blockings.ensures (omega (arith, c.count-i-end.ensures))
 
 pub returns-then-not-task_passes : goal.returns-then-not-task_passes
 returns-then-not-task_passes c =

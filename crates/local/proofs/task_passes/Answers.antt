@@ -6,11 +6,11 @@ use Rattle.local.proofs.task_passes.Goals as goal
 
 pub work-requires : goal.work-requires
 work-requires c =
-    omega (arith, c.requires.i_bound.0, tasks_within _ _ c.requires.ready.sound)
+    omega (arith, c.requires.i_bound, tasks_within _ _ c.requires.ready.sound)
 
 pub deadline-requires : goal.deadline-requires
 deadline-requires c =
-    omega (arith, c.requires.i_bound.0, tasks_within _ _ c.requires.ready.sound)
+    omega (arith, c.requires.i_bound, tasks_within _ _ c.requires.ready.sound)
 
 pub invariant_of-share : goal.invariant_of-share
 invariant_of-share c =
@@ -22,9 +22,9 @@ invariant_of-share c =
 
 pub held_within-requires : goal.held_within-requires
 held_within-requires c =
-    let ok : Within c.args.part.now.m c.args.part.now.block.now c.requires.ready.sound c.args.i = task_within _ _ c.requires.ready.sound _ c.requires.i_bound.0 in
+    let ok : Within c.args.part.now.m c.args.part.now.block.now c.requires.ready.sound c.args.i = task_within _ _ c.requires.ready.sound _ c.requires.i_bound in
     record {
-      loads = tasks_are_loads c.args.part.now.m c.args.part.now.block.now c.requires.ready.sound c.args.i c.requires.i_bound.0 _ _ c.requires.i_bound.2;
+      loads = tasks_are_loads c.args.part.now.m c.args.part.now.block.now c.requires.ready.sound c.args.i c.requires.i_bound _ _ c.requires.taken_out;
       le_constant = (
         omega (arith, c.from-2.ensures, c.work.ensures, ok.work_least),
         omega (arith, c.from.ensures, c.from-2.ensures),
@@ -35,4 +35,4 @@ held_within-requires c =
 pub returns : goal.returns
 returns c =
     c.held_within.ensures ∙
-    passes_by_block c.args.part.now.m c.args.part.now.block.now c.requires.ready.sound c.args.i c.requires.i_bound.0 _ _ c.requires.i_bound.2 c.args.end _ _ _ (c.from.ensures ∙ c.requires.i_bound.1) (c.from-2.ensures ∙ c.work.ensures) c.deadline.ensures _ _ c.period.ensures c.budget.ensures
+    passes_by_block c.args.part.now.m c.args.part.now.block.now c.requires.ready.sound c.args.i c.requires.i_bound _ _ c.requires.taken_out c.args.end _ _ _ (c.from.ensures ∙ c.requires.blocked_value) (c.from-2.ensures ∙ c.work.ensures) c.deadline.ensures _ _ c.period.ensures c.budget.ensures
