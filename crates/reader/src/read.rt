@@ -101,12 +101,13 @@ pub fn read_grid(file: &[u8], grid: &mut Grid) -> Result<Head, Misread>
         return Err(misread_at(answer, 0));
     };
     let header = value(rest, len);
-    let head = Head {
+    let n = usize::from(header[1]);
+    let m = usize::from(header[2]);
+    read_subsystems(file, n, m, grid)?;
+    // The header's two bytes are looked at again. Made up before, the head would be one number of two bytes to the compiler, and
+    // it would no longer know M's half to be at most 8, by which it lays out the steps over a task's accesses.
+    Ok(Head {
         count: header[1],
         resources: header[2],
-    };
-    let n = usize::from(head.count);
-    let m = usize::from(head.resources);
-    read_subsystems(file, n, m, grid)?;
-    Ok(head)
+    })
 }

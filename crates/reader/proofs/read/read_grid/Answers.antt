@@ -24,6 +24,14 @@ pub bounds-header-2 : goal.bounds-header-2
 bounds-header-2 c =
     omega (arith, sound_value_length 1 3 header_in_range (part_from c.args.file.now 0) _ _ c.judge_header-answer.ensures c.in-Ok.is c.value-header.result.now c.value-header.ensures)
 
+pub bounds-header-1-2 : goal.bounds-header-1-2
+bounds-header-1-2 c =
+    omega (arith, sound_value_length 1 3 header_in_range (part_from c.args.file.now 0) _ _ c.judge_header-answer.ensures c.in-Ok.is c.value-header.result.now c.value-header.ensures)
+
+pub bounds-header-2-2 : goal.bounds-header-2-2
+bounds-header-2-2 c =
+    omega (arith, sound_value_length 1 3 header_in_range (part_from c.args.file.now 0) _ _ c.judge_header-answer.ensures c.in-Ok.is c.value-header.result.now c.value-header.ensures)
+
 pub read_subsystems-requires : goal.read_subsystems-requires
 read_subsystems-requires c =
     let head = header_is_read c.args.file.now _ c.judge_header-answer.ensures _ c.in-Ok.is c.value-header.result.now c.value-header.ensures in
