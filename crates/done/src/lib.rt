@@ -113,10 +113,11 @@ pub fn row_alone(seen: &Seen, first: u32, firsts: [u32; Table::MOST], lone: usiz
 {
     let own = seen.own;
     let s = own.place;
-    let cost = seen.asking.loads.costs[s];
+    let asking = &seen.asking;
+    let cost = asking.loads.costs[s];
     let held = cost - own.budget;
     let mut ends = firsts;
-    let done = seen.asking.least_after(s, &mut ends, first, held, 0, HORIZON);
+    let done = asking.least_after(s, &mut ends, first, held, 0, HORIZON);
     if HORIZON < done {
         return row_without(own, cost);
     }

@@ -84,17 +84,18 @@ fn active_from(seen: &Seen, first: u32, ends: [u32; Table::MOST], far: bool) -> 
     ensures { Active (view_in seen.now) result }
 {
     let own = &seen.own;
+    let asking = &seen.asking;
     let s = own.place;
     let begun = round_up(first, own.period);
     let mut reached = ends;
     reached[s] = begun * own.period;
-    let more = begun * seen.asking.loads.costs[s] - own.budget;
+    let more = begun * asking.loads.costs[s] - own.budget;
     let start = active_start(seen, far);
-    seen.asking.least_after(s + 1, &mut reached, first, more, start, HORIZON)
+    asking.least_after(s + 1, &mut reached, first, more, start, HORIZON)
 }
 
-// The row of a subsystem whose active period is searched for before its jobs, from the first budget end. Where nothing is held and nearly all
-// jobs have to be looked at all the same, they are gone through as on the way.
+// The row of a subsystem whose active period is searched for before its jobs, from the first budget end. Where nothing is held and nearly
+// all jobs have to be looked at all the same, they are gone through as on the way.
 fn row_searched(seen: &Seen, first: u32, ends: [u32; Table::MOST], far: bool) -> Row
     requires first_end { FirstEnd (view_in seen.now) ends first }
     ensures { result ≡ row_for (view_in seen.now) seen.now.own.failing (active_period (view_in seen.now)) }

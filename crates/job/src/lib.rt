@@ -16,7 +16,6 @@ ghost use Rattle.job.specs.Seen.{view_in};
 ghost use Rattle.job.specs.Sound.{Counted};
 
 pub use crate::seen::Seen;
-
 use search::Asking;
 use table::Table;
 

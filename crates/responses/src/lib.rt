@@ -45,13 +45,7 @@ fn spare_for_jobs(seen: &Seen, n: u32, first: u32) -> Option<u64>
 
 // F(k + 1), searched from F(k), which is `end`, with Q + X more to wait for. `ends` holds where the higher subsystems' periods begun by
 // F(k) end, and then by F(k + 1). Where the higher ones are known to leave `spare` free of every tick, that says where to begin.
-fn next_end(
-    seen: &Seen,
-    k: u32,
-    spare: Option<u64>,
-    end: u32,
-    ends: &mut [u32; Table::MOST],
-) -> u32
+fn next_end(seen: &Seen, k: u32, spare: Option<u64>, end: u32, ends: &mut [u32; Table::MOST]) -> u32
     requires counted { Counted (view_in seen.now) (k + 1) }
     requires spare_value { IfSome spare (λ spare. (1 ≤ spare) × (spare ≡ unit - shares seen.now.asking.loads.periods.now seen.now.asking.loads.costs.now seen.now.own.place)) }
     requires ended { Ended (view_in seen.now) k end ends.old }

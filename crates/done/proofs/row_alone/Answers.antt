@@ -1,5 +1,4 @@
 -- `done::row_alone` meets its contract: job 0 is not done within the horizon, or the jobs tell. Assumes nothing.
-use native.Mathlib.Omega.{arith}
 use mathlib.Core.Path.{◌∙◌}
 use Rattle.row.proofs.RowLaws.{budget_below, overrun_computed, row_without_lem}
 use Rattle.done.proofs.DoneLaws.{ends_done_alone}
@@ -10,9 +9,9 @@ pub overflow_sub-held : goal.overflow_sub-held
 overflow_sub-held c =
     budget_below _ c.args.seen.now.sound
 
-pub least_after-done-requires : goal.least_after-done-requires
-least_after-done-requires c =
-    record { after = first_after _ c.args.seen.now.sound c.requires.first_end (overrun_computed _ c.args.seen.now.sound) c.args.seen.now.free; bound_lt_reach = omega arith }
+pub least_after-done-requires-clause-after : goal.least_after-done-requires-clause-after
+least_after-done-requires-clause-after c =
+    first_after _ c.args.seen.now.sound c.requires.first_end (overrun_computed _ c.args.seen.now.sound) c.args.seen.now.free
 
 pub row_without-requires : goal.row_without-requires
 row_without-requires c =

@@ -16,10 +16,10 @@ loop-release-init c =
     let r = reached_first (view_in c.args.seen.now) c.requires.first_done in
     (r, omega arith, worst_first (view_in c.args.seen.now) (job_reached (view_in c.args.seen.now) c.requires.ends_done r (omega arith)))
 
-pub least_after-end-requires : goal.least_after-end-requires
-least_after-end-requires c =
+pub least_after-end-requires-clause-after : goal.least_after-end-requires-clause-after
+least_after-end-requires-clause-after c =
     let late : (c.loop-release.k + 1) * c.args.seen.now.own.period < c.loop-release.end = omega (arith, c.loop-release-test.true, c.loop-release.invariant.1) in
-    record { after = next_after (view_in c.args.seen.now) c.args.seen.now.sound c.loop-release.invariant.0 (late) c.args.seen.now.free; bound_lt_reach = omega arith }
+    next_after (view_in c.args.seen.now) c.args.seen.now.sound c.loop-release.invariant.0 (late) c.args.seen.now.free
 
 pub row_without-requires : goal.row_without-requires
 row_without-requires c =

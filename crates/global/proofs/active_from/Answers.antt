@@ -26,12 +26,12 @@ overflow_sub-more c =
     let asked_is : c.round_up-begun.result * get_or c.args.seen.now.asking.loads.costs.now c.args.seen.now.own.place 0 ≡ up c.args.first (view_in c.args.seen.now).period * cost (view_in c.args.seen.now) = ap₂ ◌*◌ c.round_up-begun.ensures c.args.seen.now.sound.own_cost in
     omega (arith, asked_is, own_holds _ c.args.seen.now.sound c.requires.first_end)
 
-pub least_after-requires : goal.least_after-requires
-least_after-requires c =
+pub least_after-requires-clause-after : goal.least_after-requires-clause-after
+least_after-requires-clause-after c =
     let end_is : c.round_up-begun.result * c.args.seen.now.own.period ≡ up c.args.first (view_in c.args.seen.now).period * (view_in c.args.seen.now).period = ap (λ (q : ℕ). q * c.args.seen.now.own.period) c.round_up-begun.ensures in
     let asked_is : c.round_up-begun.result * get_or c.args.seen.now.asking.loads.costs.now c.args.seen.now.own.place 0 ≡ up c.args.first (view_in c.args.seen.now).period * cost (view_in c.args.seen.now) = ap₂ ◌*◌ c.round_up-begun.ensures c.args.seen.now.sound.own_cost in
     let more_is : c.round_up-begun.result * get_or c.args.seen.now.asking.loads.costs.now c.args.seen.now.own.place 0 - c.args.seen.now.own.budget ≡ up c.args.first (view_in c.args.seen.now).period * cost (view_in c.args.seen.now) - (view_in c.args.seen.now).budget = ap (λ (x : ℕ). x - c.args.seen.now.own.budget) asked_is in
-    record { after = rw (end_is, more_is) (active_after _ c.args.seen.now.sound c.requires.first_end c.args.seen.now.free (c.active_start-start.ensures _)); bound_lt_reach = omega arith }
+    rw (end_is, more_is) (active_after _ c.args.seen.now.sound c.requires.first_end c.args.seen.now.free (c.active_start-start.ensures _))
 
 pub returns : goal.returns
 returns c =

@@ -9,13 +9,10 @@ pub round_up-n-requires : goal.round_up-n-requires
 round_up-n-requires c =
     (active_from _ c.args.seen.now.sound c.requires.own_value, period_pos _ c.args.seen.now.sound)
 
-pub largest_response-worst-requires : goal.largest_response-worst-requires
+pub largest_response-worst-requires-clause-jobs : goal.largest_response-worst-requires-clause-jobs
 unfolding jobs
-largest_response-worst-requires c =
-    record {
-      jobs = record { is_active = c.requires.own_value; all = c.round_up-n.ensures };
-      first_end = c.requires.first_end;
-    }
+largest_response-worst-requires-clause-jobs c =
+    record { is_active = c.requires.own_value; all = c.round_up-n.ensures }
 
 pub row_with-requires : goal.row_with-requires
 row_with-requires c =

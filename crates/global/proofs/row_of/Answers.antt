@@ -1,6 +1,5 @@
 -- `global::row_of` meets its contract: what it is lent is the view that subsystem s has of the interfaces. Assumes nothing.
-use Rattle.outer.proofs.SharedLaws.{used_length}
-use Rattle.global.proofs.SeenLaws.{in_lines, few_ceilings, held_long, lent_sound, lent_row}
+use Rattle.global.proofs.SeenLaws.{in_lines, few_ceilings, lent_sound, lent_row}
 use Rattle.row.proofs.RowLaws.{never_active}
 use Rattle.global.proofs.row_of.Goals as goal
 
@@ -8,20 +7,9 @@ pub leading-held-requires : goal.leading-held-requires
 leading-held-requires c =
     (in_lines _ _ _ c.args.shown.now.sound _ c.requires.s_lt_n c.requires.lent, few_ceilings _ _ _ c.args.shown.now.sound _ c.requires.s_lt_n c.requires.lent)
 
-pub slice_bounds-held-end : goal.slice_bounds-held-end
-slice_bounds-held-end c =
-    held_long _ _ _ c.args.shown.now.sound _ c.requires.s_lt_n c.requires.lent c.leading-held.ensures
-
-pub slice_bounds-seen-end : goal.slice_bounds-seen-end
-slice_bounds-seen-end c =
-    used_length _ _ (held_long _ _ _ c.args.shown.now.sound _ c.requires.s_lt_n c.requires.lent c.leading-held.ensures)
-
-pub invariant_of-seen : goal.invariant_of-seen
-invariant_of-seen c =
-    record {
-      sound = lent_sound _ _ _ c.args.shown.now.sound _ c.requires.s_lt_n c.requires.lent c.leading-held.ensures c.args.failing c.period.ensures c.budget.ensures c.requires.blocked_value.0;
-      free = c.requires.frees;
-    }
+pub invariant_of-seen-clause-sound : goal.invariant_of-seen-clause-sound
+invariant_of-seen-clause-sound c =
+    lent_sound _ _ _ c.args.shown.now.sound _ c.requires.s_lt_n c.requires.lent c.leading-held.ensures c.args.failing c.period.ensures c.budget.ensures c.requires.blocked_value.0
 
 pub row_seen-requires : goal.row_seen-requires
 row_seen-requires c =

@@ -20,9 +20,9 @@ pub overflow_add-ahead : goal.overflow_add-ahead
 overflow_add-ahead c =
     record { fits = omega (arith, first_small _ c.args.seen.now.sound) }
 
-pub least_after-first-requires : goal.least_after-first-requires
-least_after-first-requires c =
-    record { after = after_none _ c.args.seen.now.sound 0 (first_ahead _ c.args.seen.now.sound) (first_small _ c.args.seen.now.sound) c.args.seen.now.free; bound_lt_reach = omega arith }
+pub least_after-first-requires-clause-after : goal.least_after-first-requires-clause-after
+least_after-first-requires-clause-after c =
+    after_none _ c.args.seen.now.sound 0 (first_ahead _ c.args.seen.now.sound) (first_small _ c.args.seen.now.sound) c.args.seen.now.free
 
 pub row_without-requires-then-first-gt-HORIZON : goal.row_without-requires-then-first-gt-HORIZON
 row_without-requires-then-first-gt-HORIZON c =
@@ -32,9 +32,9 @@ pub returns-then-first-gt-HORIZON : goal.returns-then-first-gt-HORIZON
 returns-then-first-gt-HORIZON c =
     c.row_without-then-first-gt-HORIZON.ensures ∙ row_without_lem _ c.args.seen.now.own.failing (overrun_computed _ c.args.seen.now.sound) (first_beyond _ c.args.seen.now.sound c.least_after-first.ensures.found (omega (arith, c.if-first-gt-HORIZON.true)))
 
-pub row_alone-requires : goal.row_alone-requires
-row_alone-requires c =
-    record { alone = rw c.in-Some.is at c.lone_on_the_way.ensures; first_end = first_end _ c.args.seen.now.sound c.least_after-first.ensures.found (omega (arith, c.least_after-first.ensures.ends_len_unchanged)) c.if-first-gt-HORIZON.false }
+pub row_alone-requires-clause-first_end : goal.row_alone-requires-clause-first_end
+row_alone-requires-clause-first_end c =
+    first_end _ c.args.seen.now.sound c.least_after-first.ensures.found (omega (arith, c.least_after-first.ensures.ends_len_unchanged)) c.if-first-gt-HORIZON.false
 
 pub row_by_jobs-requires : goal.row_by_jobs-requires
 row_by_jobs-requires c =

@@ -33,11 +33,11 @@ overflow_add-sure c =
     let here = job_counted _ c.requires.jobs c.loop-k.k (omega (arith, c.loop-k.invariant.0)) in
     record { fits = omega (arith, c.loop-k.invariant.4.is_end, end_small _ c.args.seen.now.sound here, c.args.seen.now.sound.own_cost, c.args.seen.now.sound.fits, c.args.seen.now.sound.period_small) }
 
-pub may_be_worse-requires : goal.may_be_worse-requires
-may_be_worse-requires c =
+pub may_be_worse-requires-clause-period_bound : goal.may_be_worse-requires-clause-period_bound
+may_be_worse-requires-clause-period_bound c =
     let here = job_counted _ c.requires.jobs c.loop-k.k (omega (arith, c.loop-k.invariant.0)) in
     let next = job_counted _ c.requires.jobs (c.loop-k.k + 1) (omega (arith, c.loop-k-test.true, c.loop-k.invariant.1)) in
-    record { period_bound = (release_fits _ c.args.seen.now.sound here, budget_by_its_end _ c.args.seen.now.sound next c.next_end-next.ensures.is_end); place_le_most = (omega (arith, c.args.seen.now.sound.few), omega (arith, c.args.seen.now.sound.few, c.loop-k.invariant.4.with_end)) }
+    (release_fits _ c.args.seen.now.sound here, budget_by_its_end _ c.args.seen.now.sound next c.next_end-next.ensures.is_end)
 
 pub loop-k-preserved : goal.loop-k-preserved
 loop-k-preserved c =
