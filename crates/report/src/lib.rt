@@ -9,13 +9,16 @@ ghost use Rattle.table.specs.Grid.{system_in};
 ghost use Rattle.rows.specs.Rows.{no_row};
 ghost use Rattle.report.specs.Report.{report_of};
 
-use judge::{Laid, judge_counts, judge_grid};
+use judge::{judge_counts, judge_grid};
 use row::Row;
 use rules::{Broken, Judged};
 use table::Table;
 use table::grid::{BLOCK, LINE};
 
 pub mod accepting;
+
+// What a report is of: whoever asks for one names it here.
+pub use judge::Laid;
 
 // The report: the judgement, whether the table is accepted, and eight rows. Where the table is refused, and past its
 // subsystems, rows are zero with outcome none.

@@ -12,9 +12,8 @@ ghost use Rattle.wording.specs.Room.{line_most, text_room};
 ghost use Rattle.text.specs.Text.{slot_line, report_text, table_text, text_of, IsPrinted};
 ghost use Rattle.wording.specs.Wrote.{Wrote};
 
-use judge::Laid;
 use lines::put_bytes;
-use report::Report;
+use report::{Laid, Report};
 use row::Row;
 use table::Table;
 use table::grid::{BLOCK, Grid, LINE};
