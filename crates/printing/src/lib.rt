@@ -11,15 +11,14 @@ ghost use Rattle.wording.specs.Room.{text_room};
 use std::io;
 use std::io::{Read, Write};
 use table::Table;
-use table::grid::{BLOCK, LINE};
-use text::Printed;
+use table::grid::{BLOCK, Grid, LINE};
 
 // Writes what `check` prints for a file, read into a lent grid and made up in a lent buffer. One of `text::ROOM` bytes has room
 // for any text; with a shorter one nothing is written.
 pub fn print_text_in<W: Write>(
     out: &mut W,
     file: &[u8],
-    grid: &mut [[[u32; LINE]; BLOCK]; Table::MOST],
+    grid: &mut Grid,
     buf: &mut [u8],
 ) -> io::Result<()>
     requires { HasBlocks grid.old }
@@ -29,8 +28,8 @@ pub fn print_text_in<W: Write>(
     ensures unwritten { length buf.old < text_room → Keeps (W.contents out.old) (W.contents out.new) }
 {
     match text::check_text_in(file, grid, buf) {
-        Printed::Text(len) => out.write_all(&buf[..len]),
-        Printed::NoRoom => Ok(()),
+        Some(len) => out.write_all(&buf[..len]),
+        None => Ok(()),
     }
 }
 
