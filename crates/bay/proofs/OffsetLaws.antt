@@ -13,12 +13,12 @@ use Rattle.table.specs.Meaning.{System, meaning}
 use Rattle.table.specs.Parts.{subsystem_count}
 use Rattle.rules.specs.declared.Rule.{Rule}
 use Rattle.rules.specs.declared.Place.{Place}
-use Rattle.rules.specs.declared.Judged.TheVariants.{Refused}
+use Rattle.rules.specs.Judged.{refused}
 use Rattle.rules.specs.Refusal.{number_of}
 use Rattle.rules.specs.Rules.{judge_of}
 use Rattle.report.specs.Report.{past_rows, report_of}
 use Rattle.stored.specs.declared.Fault.{Fault}
-use Rattle.stored.specs.declared.ReadAnswer.TheVariants.{Whole, Refused as RefusedFile}
+use Rattle.stored.specs.Answers.{whole, refused as refused_file}
 use Rattle.stored.specs.Numbers.{number_size}
 use Rattle.stored.specs.File.{number_bytes}
 use Rattle.stored.specs.Judge.{fault_number}
@@ -73,13 +73,13 @@ module _ (file buf : List ℕ) (room : report_size ≤ length buf) where
 ------------------------------------------------------------------------
 -- The figures of a file that is a table
 
-module _ (file : List ℕ) (whole : (read_of file).answer ≡ Whole) where
+module _ (file : List ℕ) (is_whole : (read_of file).answer ≡ whole) where
   abbrev sys : System
   sys = meaning (read_of file).table
 
   figures_of_table : figures_in file ≡ figures_of (report_of sys) (subsystem_count sys)
   unfolding figures_in
-  figures_of_table = rw whole refl
+  figures_of_table = rw is_whole refl
 
   -- Figure i of the row in slot s is figure 5 + 9 × s + i.
   pub row_figure :
@@ -99,14 +99,14 @@ module _ (file : List ℕ) (whole : (read_of file).answer ≡ Whole) where
 
   -- A refused table: number and place, and 74 zeros.
   pub refused_table_figures :
-      (k : Rule) (p : Place) → judge_of sys ≡ Refused k p →
+      (k : Rule) (p : Place) → judge_of sys ≡ refused k p →
       figures_in file ≡ number_of k ∷ p.subsystem ∷ p.task ∷ replicate 74 0
   unfolding figures_of figures head_figures row_figures table_judgement report_of flat_map
   refused_table_figures k p e = figures_of_table ∙ rw e refl
 
 -- A refused file: number and offset, and 75 zeros.
 pub refused_file_figures :
-    (file : List ℕ) (f : Fault) (at : ℕ) → (read_of file).answer ≡ RefusedFile f at →
+    (file : List ℕ) (f : Fault) (at : ℕ) → (read_of file).answer ≡ refused_file f at →
     figures_in file ≡ fault_number f ∷ at ∷ replicate 75 0
 unfolding figures_in figures head_figures row_figures flat_map
 refused_file_figures file f at e = rw e refl

@@ -1,17 +1,13 @@
 -- What a foreign caller gets: the number that each function returns, and what the lent buffer holds at the end.
 -- Assumes nothing.
-use Rattle.std.specs.Prelude.{ℕ, cond, ltb, length}
+use Rattle.std.specs.Prelude.{ℕ, cond, ltb, length, Option, unwrap_or, Ok, Err}
+use Rattle.core.specs.Result.{result_unwrap_or}
 use mathlib.Core.List.{List, flat_map}
 use Rattle.table.specs.Meaning.{System, meaning}
-use Rattle.stored.specs.declared.ReadAnswer.{ReadAnswer}
-use Rattle.stored.specs.declared.ReadAnswer.TheVariants.{Whole, Refused}
-use Rattle.stored.specs.declared.WriteAnswer.{WriteAnswer}
-use Rattle.stored.specs.declared.WriteAnswer.TheVariants.{Written, Uncounted, NoRoom}
+use Rattle.stored.specs.Answers.{ReadAnswer, WriteAnswer}
 use Rattle.stored.specs.File.{number_bytes}
 use Rattle.stored.specs.Read.{read_of}
 use Rattle.stored.specs.Write.{written, write_of, buffer_after}
-use Rattle.text.specs.declared.Printed.{Printed}
-use Rattle.text.specs.declared.Printed.TheVariants.{Text, NoRoom as NoText}
 use Rattle.text.specs.Text.{printed_of}
 use Rattle.offsets.specs.Judgement.{judgement_of, place_size, place_bytes}
 use Rattle.offsets.specs.Figures.{figures_in, report_size}
@@ -27,10 +23,9 @@ filled size room = cond (ltb room size) 0 size
 ------------------------------------------------------------------------
 -- The text
 
--- How many bytes of text were printed.
-abbrev pub printed_by : Printed → ℕ
-printed_by (Text n) = n
-printed_by NoText = 0
+-- How many bytes of text were printed: none where the buffer had no room.
+abbrev pub printed_by : Option ℕ → ℕ
+printed_by printed = unwrap_or printed 0
 
 unfoldable pub text_size : List ℕ → ℕ → ℕ
 text_size file room = printed_by (printed_of file room)
@@ -50,20 +45,18 @@ figures_after file buf = lent report_size (flat_map number_bytes (figures_in fil
 ------------------------------------------------------------------------
 -- A table that is read and written back
 
--- How many bytes a write put.
+-- How many bytes a write put: none where it did not write.
 abbrev pub put_by : WriteAnswer → ℕ
-put_by (Written n) = n
-put_by (Uncounted p) = 0
-put_by NoRoom = 0
+put_by answer = result_unwrap_or answer 0
 
 -- The bytes put, and the buffer, for a file that was read so, with what its table means.
 abbrev pub rewrite_for : ReadAnswer → System → ℕ → ℕ
-rewrite_for (Refused f at) sys room = 0
-rewrite_for Whole sys room = put_by (write_of sys room)
+rewrite_for (Err _) sys room = 0
+rewrite_for (Ok _) sys room = put_by (write_of sys room)
 
 abbrev pub rewrite_left : ReadAnswer → System → List ℕ → List ℕ
-rewrite_left (Refused f at) sys buf = buf
-rewrite_left Whole sys buf = buffer_after sys buf
+rewrite_left (Err _) sys buf = buf
+rewrite_left (Ok _) sys buf = buffer_after sys buf
 
 unfoldable pub rewrite_of : List ℕ → ℕ → ℕ
 rewrite_of file room = rewrite_for (read_of file).answer (meaning (read_of file).table) room

@@ -6,14 +6,12 @@
 ghost use Rattle.std.specs.Prelude.{◌≡◌, length};
 ghost use Rattle.text.specs.Text.{buffer_after};
 ghost use Rattle.offsets.specs.Judgement.{judgement_of};
-ghost use Rattle.bay.specs.Lent.{printed_by, text_size, place_after, filled, figures_after, put_by, rewrite_of, rewrite_after};
+ghost use Rattle.bay.specs.Lent.{text_size, place_after, filled, figures_after, rewrite_of, rewrite_after};
 ghost use Rattle.offsets.specs.Figures.{report_size};
 
 use offsets::figures::{put_file, put_place};
 use offsets::judging::judge_file;
 use offsets::{PLACE_SIZE, REPORT_SIZE};
-use stored::{ReadAnswer, WriteAnswer};
-use text::Printed;
 
 // The text of a file goes to the start of the buffer, and the rest of the buffer stays. The result is the number of bytes of
 // the text, or 0 where the buffer is shorter than 2,048 bytes, which is then as it was.
@@ -21,7 +19,7 @@ pub fn bay_text(file: &[u8], buf: &mut [u8]) -> usize
     ensures value { result ≡ text_size file.now (length buf.old) }
     ensures buf_after { buf.new ≡ buffer_after file.now buf.old }
 {
-    printed_by(text::check_text(file, buf))
+    text::check_text(file, buf).unwrap_or(0)
 }
 
 // The number of a file's judgement: 0 where its table is admitted. The two numbers of the place go to the first eight bytes of
@@ -57,29 +55,8 @@ pub fn bay_rewrite(file: &[u8], buf: &mut [u8]) -> usize
     ensures buf_after { buf.new ≡ rewrite_after file.now buf.old }
 {
     let reading = reader::read_table(file);
-    let ReadAnswer::Whole = reading.answer else {
+    let Ok(()) = reading.answer else {
         return 0;
     };
-    put_by(writer::write_table(reading.table, buf))
-}
-
-// How many bytes of text were printed.
-fn printed_by(printed: Printed) -> usize
-    ensures { result ≡ printed_by printed }
-{
-    match printed {
-        Printed::Text(n) => n,
-        Printed::NoRoom => 0,
-    }
-}
-
-// How many bytes a write put.
-fn put_by(answer: WriteAnswer) -> usize
-    ensures { result ≡ put_by answer }
-{
-    match answer {
-        WriteAnswer::Written(n) => n,
-        WriteAnswer::Uncounted(_) => 0,
-        WriteAnswer::NoRoom => 0,
-    }
+    writer::write_table(reading.table, buf).unwrap_or(0)
 }

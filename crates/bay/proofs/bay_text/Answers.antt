@@ -4,4 +4,4 @@ use Rattle.bay.proofs.bay_text.Goals as goal
 
 pub returns : goal.returns
 returns c =
-    record { value = text_is_printed c.args.file.now c.args.buf.now _ _ _ c.check_text.ensures c.printed_by.ensures; buf_after = c.check_text.ensures.left }
+    record { value = text_is_printed c.args.file.now c.args.buf.now _ _ _ c.check_text.ensures c.unwrap_or.ensures; buf_after = c.check_text.ensures.left }
