@@ -1,7 +1,6 @@
 -- Holding times task by task: what one more task makes of a resource and of the arrays, and that all tasks together make the
 -- holding times. Assumes nothing.
 use Prim.Native.Nat.{ℕ, zero, suc, ◌+◌, ◌-◌, ◌≤◌, ◌<◌, max}
-use native.Mathlib.Nat.{max-eq_left}
 use native.Mathlib.Numerals.{add-one}
 use native.Mathlib.Omega.{arith}
 use mathlib.Core.Path.{◌≡◌, refl, sym, ap, ◌∙◌}
@@ -10,7 +9,7 @@ use mathlib.Core.List.{List}
 use mathlib.Core.Logic.{inl, inr, ⊎_elim}
 use lib.Dec.{eqb}
 use lib.ListN.{length, get_or, set, replicate, length-set, length-replicate, get_or-replicate, get_or-eq_default}
-use lib.Seq.{ext_get_or, get_or-set_same, get_or-set_other, get_or-append-add, set-get_or}
+use lib.Seq.{ext_get_or, get_or-set_same, get_or-set_other, get_or-append-add}
 use borrow.Author.Tests.{eq-eqb, ne_eqb}
 use Rattle.lists.specs.Range.{sum_to, largest_to, up_to, padded}
 use Rattle.lists.proofs.Over.{le_or_lt, same_or_not, largest_to_zero, largest_to_suc, largest_to_ext, below_largest, largest_at_most}
@@ -29,13 +28,6 @@ get_d_past f d n size k a b =
     ap (λ (i : ℕ). get_or (padded f d size n) i d) e ∙
     get_or-append-add (up_to f n) (replicate (size - n) d) (k - n) d ∙
     get_or-replicate (size - n) (k - n) d d (omega arith)
-
--- A slot that is raised by nothing stays, else it has the new value.
-pub raised_not : (xs : List ℕ) (l y : ℕ) → y ≤ slot_of xs l → xs ≡ set xs l (max (slot_of xs l) y)
-raised_not xs l y h = sym (ap (set xs l) (max-eq_left h) ∙ set-get_or xs l 0)
-
-pub raised_to : (xs : List ℕ) (l y : ℕ) → slot_of xs l < y → set xs l y ≡ set xs l (max (slot_of xs l) y)
-raised_to xs l y h = ap (set xs l) (omega arith)
 
 -- A slot that is raised raises the largest.
 module _ (xs : List ℕ) (m l x y : ℕ) (room : l < length xs) (listed : l < m) (e : x ≡ max (slot_of xs l) y) where
@@ -135,9 +127,6 @@ module _ (block : List (List ℕ)) (m i : ℕ) where
   -- The same arrays under other names.
   pub up_to_same : (l : ℕ) {each above : List ℕ} {largest : ℕ} {each' above' : List ℕ} {largest' : ℕ} → each' ≡ each → above' ≡ above → largest' ≡ largest → HeldUpTo block m i l each above largest → HeldUpTo block m i l each' above' largest'
   up_to_same l e a b s = rw (e, a, b) s
-
-  pub up_to_at : {l l' : ℕ} {each above : List ℕ} {largest : ℕ} → l ≡ l' → HeldUpTo block m i l each above largest → HeldUpTo block m i l' each above largest
-  up_to_at e s = rw (← e) s
 
   -- All resources of a task: it is joined.
   pub up_to_next : (each above : List ℕ) (largest l : ℕ) → m ≤ l → HeldUpTo block m i l each above largest → HeldUpTo block m (i + 1) 0 each above largest

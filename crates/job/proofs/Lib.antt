@@ -5,7 +5,6 @@ pub mod BudgetEndLaws
 pub mod WaitLaws
 pub mod JobEndLaws
 pub mod ViewLaws
-pub mod AfterLaws
 pub mod BestLaws
 pub mod ResponseLaws
 pub mod LentLaws

@@ -26,20 +26,12 @@ unfolding row_accepted
 rejected_by_task row h = rw (ne_eqb row.failing 0 h)
 
 module _ (rows : List Row) (n : ℕ) where
-  -- A row that is not accepted decides.
-  pub row_rejected : (s : ℕ) → s < n → (b : Bool) → b ≡ row_accepted (get_or rows s past_rows) → b ≡ false → false ≡ all_to (slot_accepted rows) n
-  unfolding slot_accepted
-  row_rejected s h b e f = sym (all_to_fails (slot_accepted rows) n s h (sym e ∙ f))
-
   -- So far every row is accepted.
   pub row_accepted_lem :
       (s : ℕ) → (b : Bool) → b ≡ row_accepted (get_or rows s past_rows) → b ≡ true → all_to (slot_accepted rows) s ≡ true →
       all_to (slot_accepted rows) (s + 1) ≡ true
   unfolding slot_accepted
   row_accepted_lem s b e f a = all_to_suc (slot_accepted rows) s ∙ rw a (sym e ∙ f)
-
-  pub all_rows_accepted : (s : ℕ) → s ≡ n → all_to (slot_accepted rows) s ≡ true → true ≡ all_to (slot_accepted rows) n
-  all_rows_accepted s q a = sym a ∙ ap (all_to (slot_accepted rows)) q
 
 -- The first n rows, gone through one by one: each is accepted, or one of them is not.
 pub each_of_the_first :

@@ -17,36 +17,6 @@ use Rattle.holding.specs.Holding.{holding}
 use Rattle.rules.specs.declared.Rule.TheVariants.{Range, Order, Access, Overrun}
 use Rattle.rules.specs.Rules.{access_within, some_access_above, time_out, subsystem_breaks, task_breaks}
 
--- Out of 1 .. most: below it, or else by the second test.
-pub out_below : (x most : ℕ) → x < 1 → true ≡ (ltb x 1 || ltb most x)
-out_below x most h = rw (lt-ltb x 1 h)
-
-pub out_above : (x most : ℕ) → 1 ≤ x → ltb most x ≡ (ltb x 1 || ltb most x)
-out_above x most h = rw (le-ltb x 1 h)
-
--- One of two, by tests in a row: the first has passed, or it has failed and the second decides.
-pub or_first : (a b t : Bool) → t ≡ a → t ≡ true → true ≡ (a || b)
-or_first a b t e h = rw (← e, h)
-
-pub or_second : (a b t x : Bool) → t ≡ a → t ≡ false → x ≡ b → x ≡ (a || b)
-or_second a b t x e h f = rw (← e, h) f
-
--- One of four, likewise.
-module _ (a b c d t : Bool) (e : t ≡ a) where
-  pub four_first : t ≡ true → true ≡ (a || b || c || d)
-  four_first h = rw (← e, h)
-
-  module _ (h : t ≡ false) (u : Bool) (f : u ≡ b) where
-    pub four_second : u ≡ true → true ≡ (a || b || c || d)
-    four_second k = rw (← e, h, ← f, k)
-
-    module _ (k : u ≡ false) (v : Bool) (g : v ≡ c) where
-      pub four_third : v ≡ true → true ≡ (a || b || c || d)
-      four_third l = rw (← e, h, ← f, k, ← g, l)
-
-      pub four_last : v ≡ false → d ≡ (a || b || c || d)
-      four_last l = rw (← e, h, ← f, k, ← g, l) refl
-
 -- A turn of the longest access of a task.
 pub access_turn : (block : List (List ℕ)) (i l longest x : ℕ) → longest ≡ largest_to (access_in block i) l → x ≡ access_in block i l → max longest x ≡ largest_to (access_in block i) (l + 1)
 access_turn block i l longest x e f = rw (largest_to_suc (access_in block i) l, e, f) refl

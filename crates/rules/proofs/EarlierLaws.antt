@@ -89,13 +89,6 @@ module _ (found next : Judged) (k : Rule) (p : Place) (e : next ≡ refused k p)
   pub after_none : found ≡ admitted → refused k p ≡ earlier found next
   after_none f = rw (e, f) refl
 
-  module _ (j : Rule) (q : Place) (f : found ≡ refused j q) (a b : ℕ) (g : a ≡ number_of k) (h : b ≡ number_of j) where
-    pub by_lower : a < b → refused k p ≡ earlier found next
-    by_lower l = rw (e, f, lt-ltb (number_of k) (number_of j) (rw (← g, ← h) l)) refl
-
-    pub by_no_lower : b ≤ a → refused j q ≡ earlier found next
-    by_no_lower l = rw (e, f, le-ltb (number_of k) (number_of j) (rw (← g, ← h) l)) refl
-
 ------------------------------------------------------------------------
 -- One place
 

@@ -30,9 +30,6 @@ use Rattle.rules.specs.Slots.{CountedSystem, CountedTable, CountedGrid}
 ------------------------------------------------------------------------
 -- The order
 
-pub refused_not_admitted : (k : Rule) (p : Place) → refused k p ≡ admitted → ⊥
-refused_not_admitted k p e = let z : ◌≡◌ {A = ℕ} 0 1 = cc in absurd (omega arith)
-
 -- A refusal names one rule and one place.
 pub refused_names : (k k' : Rule) (p p' : Place) → refused k p ≡ refused k' p' → (k ≡ k') × (p ≡ p')
 refused_names k k' p p' e =

@@ -70,28 +70,6 @@ big_endian_of_spelled (b ∷ bs) h =
 ------------------------------------------------------------------------
 -- Four bytes at an offset, and four stores
 
-spelled_four : (a b c d : ℕ) → spelled (a ∷ b ∷ c ∷ d ∷ []) ≡ a * 16777216 + b * 65536 + c * 256 + d
-unfolding spelled
-spelled_four a b c d = omega arith
-
-number_of_four : (bs : List ℕ) (at : ℕ) → at + 4 ≤ length bs → number_at bs at ≡ get_or bs at 0 * 16777216 + get_or bs (at + 1) 0 * 65536 + get_or bs (at + 2) 0 * 256 + get_or bs (at + 3) 0
-unfolding number_at
-number_of_four bs at h =
-    rw (
-      add-one,
-      add-two,
-      add-three,
-      drop-cons bs at 0 (omega arith),
-      drop-cons bs (suc at) 0 (omega arith),
-      drop-cons bs (suc (suc at)) 0 (omega arith),
-      drop-cons bs (suc (suc (suc at))) 0 (omega arith),
-    )
-    (spelled_four (get_or bs at 0) (get_or bs (suc at) 0) (get_or bs (suc (suc at)) 0) (get_or bs (suc (suc (suc at))) 0))
-
--- Four bytes, each weighed by its place, make the number that they spell.
-pub four_bytes_spell : (bs : List ℕ) (at a b c d : ℕ) → at + 4 ≤ length bs → a ≡ get_or bs at 0 → b ≡ get_or bs (at + 1) 0 → c ≡ get_or bs (at + 2) 0 → d ≡ get_or bs (at + 3) 0 → a * 16777216 + b * 65536 + c * 256 + d ≡ number_at bs at
-four_bytes_spell bs at a b c d h ea eb ec ed = rw (ea, eb, ec, ed) (sym (number_of_four bs at h))
-
 pub four_stores : (buf : List ℕ) (a b c d : ℕ) → 4 ≤ length buf → set (set (set (set buf 0 a) 1 b) 2 c) 3 d ≡ a ∷ b ∷ c ∷ d ∷ drop 4 buf
 four_stores [] a b c d h = absurd (omega arith)
 four_stores (w ∷ []) a b c d h = absurd (omega arith)

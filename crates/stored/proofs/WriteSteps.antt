@@ -89,14 +89,6 @@ put_the_same bytes others before after n e put = rw (← e) put
 ------------------------------------------------------------------------
 -- Bytes that are stored one by one
 
-pub number_is_put : (buf : List ℕ) (x : ℕ) → number_size ≤ length buf → IsPut (number_bytes x) buf (set (set (set (set buf 0 (x / 16777216 % 256)) 1 (x / 65536 % 256)) 2 (x / 256 % 256)) 3 (x % 256)) number_size
-unfolding number_bytes written
-number_is_put buf x h =
-    record {
-      counted = rw big_endian_four refl;
-      left = rw big_endian_four (four_stores buf _ _ _ _ h);
-    }
-
 -- Bytes that are copied to the start of a buffer in one go, and those of a number.
 pub copied_is_put : (buf bytes copy : List ℕ) (n : ℕ) → copy ≡ bytes → length bytes ≡ n → IsPut bytes buf (copy ++ drop n buf) n
 unfolding written
@@ -113,26 +105,6 @@ one_store (x ∷ rest) a h = refl
 pub byte_is_put : (buf : List ℕ) (x : ℕ) → 1 ≤ length buf → IsPut (x ∷ []) buf (set buf 0 x) 1
 unfolding written
 byte_is_put buf x h = record { counted = refl; left = one_store buf x h }
-
-three_stores : (buf : List ℕ) (a b c : ℕ) → start_size ≤ length buf → set (set (set buf 0 a) 1 b) 2 c ≡ a ∷ b ∷ c ∷ drop start_size buf
-three_stores [] a b c h = absurd (omega arith)
-three_stores (x ∷ []) a b c h = absurd (omega arith)
-three_stores (x ∷ y ∷ []) a b c h = absurd (omega arith)
-three_stores (x ∷ y ∷ z ∷ rest) a b c h = refl
-
-pub start_is_put : (buf : List ℕ) (tag len : ℕ) → start_size ≤ length buf → IsPut ((tag ∷ []) ++ big_endian 2 len) buf (set (set (set buf 0 tag) 1 (len / 256 % 256)) 2 (len % 256)) start_size
-unfolding big_endian written
-start_is_put buf tag len h =
-    record {
-      counted = refl;
-      left =
-          three_stores buf tag (len / 256 % 256) (len % 256) h ∙
-          ap (λ (x : ℕ). tag ∷ len / 256 % 256 ∷ x % 256 ∷ drop start_size buf) (sym (div-one len));
-    }
-
-pub header_value_is_put : (buf : List ℕ) (n m : ℕ) → header_length ≤ length buf → IsPut (header_value n m) buf (set (set (set buf 0 version) 1 n) 2 m) header_length
-unfolding header_value written
-header_value_is_put buf n m h = record { counted = refl; left = three_stores buf version n m h }
 
 -- Tag and length, as they are copied: of the length the two lowest of the bytes that the program has of it.
 pub start_copied : (buf : List ℕ) (tag len : ℕ) (bytes copy : List ℕ) → bytes ≡ to_be_bytes w64 len → copy ≡ tag ∷ get_or bytes 6 0 ∷ get_or bytes 7 0 ∷ [] → IsPut ((tag ∷ []) ++ big_endian 2 len) buf (copy ++ drop start_size buf) start_size

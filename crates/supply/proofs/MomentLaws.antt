@@ -1,9 +1,9 @@
 -- The moment at which the supply reaches n ticks is the first: before it the supply is below n, from it on it is not.
 -- Assumes nothing.
-use Prim.Native.Nat.{ℕ, ◌+◌, ◌-◌, ◌*◌, ◌/◌, ◌%◌, ◌^◌, ◌≤◌, ◌<◌}
+use Prim.Native.Nat.{ℕ, ◌+◌, ◌-◌, ◌*◌, ◌/◌, ◌%◌, ◌≤◌, ◌<◌}
 use mathlib.Core.Path.{◌≡◌, ap, ap₂}
 use mathlib.Core.Logic.{◌↔◌, ⊎_elim}
-use native.Mathlib.Nat.{div-add-mod', mod-lt, div-le_self, mul-le-mul_left}
+use native.Mathlib.Nat.{div-add-mod', mod-lt}
 use native.Mathlib.Omega.{arith}
 use Rattle.lists.proofs.Over.{le_or_lt}
 use Rattle.supply.specs.Supply.{supply}
@@ -74,11 +74,3 @@ pub moment_worked :
 unfolding moment_of
 moment_worked P Q E n idle lead whole period rest a b c d e =
     omega (arith, ap₂ ◌*◌ c d, div-add-mod' (n - 1) Q)
-
-pub whole_small : (n Q : ℕ) → n < 2 ^ 31 → (n - 1) / Q < 2 ^ 31
-whole_small n Q h = omega (arith, div-le_self (n - 1) Q)
-
-pub product_small : (a b : ℕ) → a < 2 ^ 31 → b < 2 ^ 32 → a * b < 2 ^ 63
-product_small a b h l =
-    let most : a * b ≤ a * 4294967296 = mul-le-mul_left a (omega arith) in
-    omega arith
