@@ -1,19 +1,17 @@
 -- Laws of the judge of a field: what it says in each case, what a sound field is, and that range is judged last.
 -- Assumes nothing.
-use Prim.Native.Nat.{ℕ, ◌+◌, ◌*◌, ◌≤◌, ◌<◌}
+use Prim.Native.Nat.{ℕ, ◌≤◌}
 use native.Mathlib.Omega.{arith}
-use borrow.Author.Tests.{lt-ltb, le-ltb, eq-eqb, ne_eqb, ltb-false, eqb-true, not-false}
+use borrow.Author.Tests.{le-ltb, eq-eqb, ne_eqb, ltb-false, eqb-true, not-false}
 use mathlib.Core.Path.{◌≡◌, refl, sym, ap, ◌∙◌}
 use mathlib.Core.Bool.{Bool, true, false, not}
 use mathlib.Core.List.{List}
 use lib.Dec.{ltb, eqb}
-use lib.ListN.{length, get_or, length-take, length-drop}
-use lib.Seq.{drop-cons}
+use lib.ListN.{length, length-take, length-drop}
 use Rattle.std.specs.Prelude.{Ok, Err}
 use Rattle.stored.specs.declared.Fault.{Fault}
 use Rattle.stored.specs.declared.Fault.TheVariants.{Short, OtherTag, OtherLength, OutOfRange}
 use Rattle.stored.specs.Answers.{FieldAnswer}
-use Rattle.stored.specs.Numbers.{spelled}
 use Rattle.stored.specs.Field.{start_size, field_size, tag_of, stated_length, value_of}
 use Rattle.stored.specs.Judge.{refuse_if, judge_field, any_value}
 

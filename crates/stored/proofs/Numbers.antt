@@ -1,14 +1,12 @@
 -- Laws of numbers as bytes: bytes and the number that they spell determine each other. Assumes nothing.
 use Prim.Native.Nat.{ℕ, zero, suc, ◌+◌, ◌*◌, ◌/◌, ◌%◌, ◌^◌, ◌≤◌, ◌<◌}
 use native.Mathlib.Nat.{mod-lt, mod-eq_of_lt, mul_assoc, pow-succ', div-one, mod-one, pow-le-pow_right, mul-add-div_right, mul-add-mod_self_right}
-use native.Mathlib.Numerals.{add-one, add-two, add-three}
 use native.Mathlib.Omega.{arith}
 use mathlib.Core.Path.{◌≡◌, refl, sym, ap, ap₂, ◌∙◌}
 use mathlib.Core.List.{List, [], ◌∷◌}
 use lib.Arith.{digits_div, digits_lt, mod-mul}
-use lib.ListN.{length, get_or, drop, set}
-use lib.Seq.{drop-cons}
-use Rattle.stored.specs.Numbers.{big_endian, spelled, number_at, AreBytes}
+use lib.ListN.{length, drop, set}
+use Rattle.stored.specs.Numbers.{big_endian, spelled, AreBytes}
 
 ------------------------------------------------------------------------
 -- Bytes of a number

@@ -10,10 +10,10 @@ use lib.Seq.{take_at, drop_at, drop-drop, get_or-take}
 use Rattle.std.specs.Int.{w32, w64, to_be_bytes}
 use Rattle.lists.specs.Range.{up_to}
 use Rattle.stored.specs.Numbers.{big_endian, number_size}
-use Rattle.stored.specs.Field.{start_size, field, header_length, version}
-use Rattle.stored.specs.File.{number_bytes, header_value}
+use Rattle.stored.specs.Field.{start_size, field}
+use Rattle.stored.specs.File.{number_bytes}
 use Rattle.stored.specs.Write.{written, IsPut}
-use Rattle.stored.proofs.Numbers.{length_big_endian, big_endian_four, four_stores}
+use Rattle.stored.proofs.Numbers.{length_big_endian, big_endian_four}
 use Rattle.stored.proofs.Offsets.{part_from, part_to_the_end}
 use Rattle.stored.proofs.FileLaws.{flat_map_none, flat_map_one_more, flat_map_grows}
 
