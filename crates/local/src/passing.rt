@@ -29,7 +29,7 @@ pub fn moment_within(share: &Share, deadline: u32, need: u64) -> u32
         return deadline + 1;
     }
     let moment = share.moment_of(need as u32);
-    moment.min(last + 1) as u32
+    (last + 1).min(moment) as u32
 }
 
 // Whether the need is held at some moment from 1 to the deadline. A moment that will not do names the next that might,
@@ -40,6 +40,7 @@ pub fn held_within(tasks: &LoadList, i: usize, constant: u64, deadline: u32, sha
     ensures { result ≡ held_within (total tasks.now.periods.now tasks.now.costs.now i constant) share.now.period share.now.budget share.now.end deadline }
 {
     let mut x: u32 = 1;
+    // Not a `for`: x goes on by what was found, not by one.
     while x <= deadline {
         let need = need_in(tasks, i, constant, x);
         let next = moment_within(share, deadline, need);
