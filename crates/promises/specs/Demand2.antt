@@ -15,8 +15,7 @@ use Rattle.table.specs.declared.Table.{Table}
 use Rattle.table.specs.Meaning.{meaning}
 use Rattle.table.specs.Parts.{subsystem_count}
 use Rattle.holding.specs.Holding.{resource_holding}
-use Rattle.rules.specs.declared.Judged.{Judged}
-use Rattle.rules.specs.declared.Judged.TheVariants.{Admitted}
+use Rattle.rules.specs.Judged.{Judged, admitted}
 use Rattle.outer.specs.Interfaces.{InterfacesM}
 use Rattle.outer.specs.Parts.{periods, costs}
 use Rattle.outer.specs.Blocking.{blocking as step6}
@@ -104,7 +103,7 @@ counted v n k l among listed here =
 
 module _ (t : Table) (a : IsAdmitted t) where
   -- The report of an admitted table.
-  admitted_report : report_of (meaning t) ≡ report_for Admitted (meaning t)
+  admitted_report : report_of (meaning t) ≡ report_for admitted (meaning t)
   unfolding report_of
   admitted_report = ap (λ (j : Judged). report_for j (meaning t)) a
 

@@ -5,12 +5,12 @@ use Rattle.table.specs.declared.Table.{Table}
 use Rattle.table.specs.Meaning.{SubsystemM, TaskM, meaning}
 use Rattle.table.specs.Parts.{subsystem_count, subsystem_of, task_count, task_of}
 use Rattle.holding.specs.Holding.{holding}
-use Rattle.rules.specs.declared.Judged.TheVariants.{Admitted}
+use Rattle.rules.specs.Judged.{admitted}
 use Rattle.rules.specs.Rules.{judge_of}
 
 -- A table that no rule refuses.
 abbrev pub IsAdmitted : Table → Type 0
-IsAdmitted t = judge_of (meaning t) ≡ Admitted
+IsAdmitted t = judge_of (meaning t) ≡ admitted
 
 -- Subsystem s of a table, and task i of a subsystem, are there.
 abbrev pub HasSubsystem : Table → ℕ → Type 0
