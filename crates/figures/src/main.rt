@@ -8,41 +8,61 @@ mod tables;
 ghost use Rattle.std.specs.Prelude.{◌≡◌, ◌≤◌};
 ghost use Rattle.table.specs.Limits.{most};
 
-use asked::{JobEnd, job_end};
+use asked::job_end;
+use holding::Part;
 use report::Report;
 use row::Row;
 use std::io;
+use supply::Share;
 use table::grid::{BLOCK, LINE, lay_out_subsystem};
 use table::{Subsystem, Table};
 
 // A line with the supply of a window of x ticks.
-fn supply(out: &impl Print, period: u32, budget: u32, end: u32, x: u32) -> io::Result<()>
-    requires { (1 ≤ budget) × (budget ≤ end) × (end ≤ period) }
-{
-    let given = supply::supply_in(period, budget, end, x);
-    println!(out; "supply P {period} Q {budget} E {end} at {x}: {given}")
+fn supply(out: &impl Print, share: &Share, x: u32) -> io::Result<()> {
+    let given = share.supply_in(x);
+    println!(out;
+        "supply P {} Q {} E {} at {x}: {given}",
+        share.period, share.budget, share.end
+    )
 }
 
 // The last line of these has P for E, where A's task 1 would see 14.
 fn supplies(out: &impl Print) -> io::Result<()> {
-    supply(out, 50, 10, 44, 74)?;
-    supply(out, 50, 10, 44, 75)?;
-    supply(out, 50, 10, 44, 84)?;
-    supply(out, 50, 10, 44, 124)?;
-    supply(out, 50, 10, 44, 133)?;
-    supply(out, 50, 10, 44, 134)?;
-    supply(out, 70, 30, 60, 99)?;
-    supply(out, 70, 30, 60, 100)?;
-    supply(out, 10, 10, 10, 17)?;
-    supply(out, 50, 10, 50, 134)
+    let first = Share {
+        period: 50,
+        budget: 10,
+        end: 44,
+    };
+    supply(out, &first, 74)?;
+    supply(out, &first, 75)?;
+    supply(out, &first, 84)?;
+    supply(out, &first, 124)?;
+    supply(out, &first, 133)?;
+    supply(out, &first, 134)?;
+    let third = Share {
+        period: 70,
+        budget: 30,
+        end: 60,
+    };
+    supply(out, &third, 99)?;
+    supply(out, &third, 100)?;
+    let whole = Share {
+        period: 10,
+        budget: 10,
+        end: 10,
+    };
+    supply(out, &whole, 17)?;
+    let late = Share {
+        period: 50,
+        budget: 10,
+        end: 50,
+    };
+    supply(out, &late, 134)
 }
 
 // Where a job ends, 0 where it does not.
 fn end(t: Table, s: u8, k: u32, l: u8) -> u64 {
-    let JobEnd::At(x) = job_end(t, s, k, l) else {
-        return 0;
-    };
-    u64::from(x)
+    u64::from(job_end(t, s, k, l).unwrap_or(0))
 }
 
 // Its response: the end, from the release at k × P on.
@@ -137,7 +157,11 @@ fn inner_ceiling(sub: Subsystem) -> u64
 {
     let mut block = [[0u32; LINE]; BLOCK];
     lay_out_subsystem(sub, &mut block);
-    let ceiling = holding::inner_ceiling(&block, 1, 0) + 1;
+    let part = Part {
+        block: &block,
+        m: 1,
+    };
+    let ceiling = holding::inner_ceiling(&part, 0) + 1;
     // `u64::from` takes no usize.
     ceiling as u64
 }

@@ -1,7 +1,6 @@
 // Figures as lines on standard output: a name, then the value or the values.
 use row::{Outcome, Row};
 use rules::Judged;
-use rules::places::rule_number;
 use std::io;
 
 // A line with one number.
@@ -20,13 +19,13 @@ pub(crate) fn outcome(out: &impl Print, name: &str, row: Row) -> io::Result<()> 
 
 // A line with a judgement.
 pub(crate) fn judgement(out: &impl Print, name: &str, judged: Judged) -> io::Result<()> {
-    let Judged::Refused(rule, place) = judged else {
+    let Err(broken) = judged else {
         return println!(out; "{name}admitted");
     };
     println!(out;
         "{name}refused {} at {} {}",
-        rule_number(rule),
-        place.subsystem,
-        place.task
+        u32::from(broken.rule),
+        broken.place.subsystem,
+        broken.place.task
     )
 }

@@ -10,15 +10,10 @@ pub lay_out_subsystem-requires : goal.lay_out_subsystem-requires
 lay_out_subsystem-requires c =
     (omega (arith, c.requires), blank_lines)
 
-pub inner_ceiling-ceiling-requires : goal.inner_ceiling-ceiling-requires
-inner_ceiling-ceiling-requires c =
+pub invariant_of-part : goal.invariant_of-part
+invariant_of-part c =
     let counted = c.lay_out_subsystem.ensures.0.count_is ∙ c.requires in
-    record {
-      some_task = omega (arith, counted);
-      tasks_most = omega (arith, counted);
-      resources_most = search rules;
-      listed = search rules;
-    }
+    record { counted = record { some_task = omega (arith, counted); tasks_most = omega (arith, counted); resources_most = search rules } }
 
 pub overflow_add-ceiling : goal.overflow_add-ceiling
 overflow_add-ceiling c =
