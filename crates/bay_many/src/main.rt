@@ -14,7 +14,7 @@ use std::io;
 use std::io::{Read, Write};
 use streams::Streams;
 use table::Table;
-use table::grid::{BLOCK, LINE};
+use table::grid::{BLOCK, Grid, LINE};
 
 // Room for the digits of any number of a file, and the line's end.
 const NUMBER_AND_END: usize = 11;
@@ -68,7 +68,7 @@ fn judge_file<R: Read, W: Write>(
     k: u32,
     size: u32,
     space: &mut [u8],
-    grid: &mut [[[u32; LINE]; BLOCK]; Table::MOST],
+    grid: &mut Grid,
     buf: &mut [u8],
 ) -> io::Result<bool>
     requires space_value { (length space.old ≡ 4096) × (length buf.old ≡ 2048) }
@@ -94,7 +94,7 @@ fn judge_next<R: Read, W: Write>(
     streams: &mut Streams<R, W>,
     k: u32,
     space: &mut [u8],
-    grid: &mut [[[u32; LINE]; BLOCK]; Table::MOST],
+    grid: &mut Grid,
     buf: &mut [u8],
 ) -> io::Result<bool>
     requires space_value { (length space.old ≡ 4096) × (length buf.old ≡ 2048) }
