@@ -9,7 +9,7 @@ use mathlib.Core.List.{List}
 use lib.Dec.{ltb, leb}
 use lib.ListN.{get_or, set}
 use borrow.Author.Tests.{lt-ltb, le-ltb, le-leb, lt-leb}
-use Rattle.lists.specs.Range.{largest_to, behind, padded}
+use Rattle.lists.specs.Range.{largest_to, behind, raised_from, padded}
 use Rattle.lists.proofs.Over.{le_or_lt, largest_at_most, below_largest}
 use Rattle.lists.proofs.UpTo.{get_d_padded, padded_ext}
 use Rattle.lists.proofs.Put.{padded_put}
@@ -75,34 +75,30 @@ module _ (f : ℕ → ℕ) (n : ℕ) where
       here = rw (lt-ltb s u (omega arith)) at (below_largest (λ (t : ℕ). cond (ltb s t) (f t) 0) n u h)
 
   module _ (a : ℕ → ℕ) (most : ℕ) where
-    -- What stands in slot s when those from t on are raised.
-    abbrev pub raised_from : ℕ → ℕ → ℕ
-    raised_from t s = cond (leb t s) (max (a s) (behind f n s)) (a s)
-
     -- The last slot has nothing behind it.
-    pub raised_last : (t : ℕ) {xs : List ℕ} → n ≤ t + 1 → xs ≡ padded a 0 most n → xs ≡ padded (raised_from t) 0 most n
-    raised_last t h e = e ∙ padded_ext a (raised_from t) 0 most n each
+    pub raised_last : (t : ℕ) {xs : List ℕ} → n ≤ t + 1 → xs ≡ padded a 0 most n → xs ≡ padded (raised_from f n a t) 0 most n
+    raised_last t h e = e ∙ padded_ext a (raised_from f n a t) 0 most n each
       where
-        each : (s : ℕ) → s < n → a s ≡ raised_from t s
+        each : (s : ℕ) → s < n → a s ≡ raised_from f n a t s
         each s k =
             ⊎_elim (λ (u : t ≤ s). rw (le-leb t s u) (omega (arith, behind_last s (omega arith))))
             (λ (u : s < t). rw (lt-leb t s u) refl)
             (le_or_lt t s)
 
     -- The slot before is raised by what is behind it.
-    pub raised_next : (t u : ℕ) {xs : List ℕ} {longest x v : ℕ} → u ≡ t + 1 → u < n → longest ≡ behind f n t → xs ≡ padded (raised_from u) 0 most n → x ≡ get_or xs t 0 → v ≡ max x longest → set xs t v ≡ padded (raised_from t) 0 most n
+    pub raised_next : (t u : ℕ) {xs : List ℕ} {longest x v : ℕ} → u ≡ t + 1 → u < n → longest ≡ behind f n t → xs ≡ padded (raised_from f n a u) 0 most n → x ≡ get_or xs t 0 → v ≡ max x longest → set xs t v ≡ padded (raised_from f n a t) 0 most n
     raised_next t u {xs} {longest} {x} {v} next h el e ex ev =
-        ap (λ (ys : List ℕ). set ys t v) e ∙ padded_put (raised_from u) (raised_from t) 0 most n t v (omega arith) here others
+        ap (λ (ys : List ℕ). set ys t v) e ∙ padded_put (raised_from f n a u) (raised_from f n a t) 0 most n t v (omega arith) here others
       where
         was : x ≡ a t
         was =
-            ex ∙ ap (λ (ys : List ℕ). get_or ys t 0) e ∙ get_d_padded (raised_from u) 0 0 most n t (omega arith) ∙
+            ex ∙ ap (λ (ys : List ℕ). get_or ys t 0) e ∙ get_d_padded (raised_from f n a u) 0 0 most n t (omega arith) ∙
             rw (lt-leb u t (omega arith)) refl
 
-        here : raised_from t t ≡ v
+        here : raised_from f n a t t ≡ v
         here = rw (le-leb t t (omega arith)) (omega (arith, was, ev, el))
 
-        others : (s : ℕ) → s < n → (s ≡ t → ⊥) → raised_from u s ≡ raised_from t s
+        others : (s : ℕ) → s < n → (s ≡ t → ⊥) → raised_from f n a u s ≡ raised_from f n a t s
         others s k ne =
             ⊎_elim (λ (w : s ≤ t). rw (lt-leb u s (omega arith), lt-leb t s (before w)) refl)
             (λ (w : t < s). rw (le-leb u s (omega arith), le-leb t s (omega arith)) refl)
@@ -112,8 +108,8 @@ module _ (f : ℕ → ℕ) (n : ℕ) where
             before w = ⊎_elim (λ (q : t ≤ s). absurd (ne (omega arith))) (λ (q : s < t). q) (le_or_lt t s)
 
     -- All slots, where those before t are not to be raised.
-    pub raised_all : (t : ℕ) (b : ℕ → ℕ) {xs : List ℕ} → xs ≡ padded (raised_from t) 0 most n → ((s : ℕ) → s < n → b s ≡ max (a s) (cond (leb t s) (behind f n s) 0)) → xs ≡ padded b 0 most n
-    raised_all t b e h = e ∙ padded_ext (raised_from t) b 0 most n (λ s k. each (leb t s) (a s) (behind f n s) ∙ sym (h s k))
+    pub raised_all : (t : ℕ) (b : ℕ → ℕ) {xs : List ℕ} → xs ≡ padded (raised_from f n a t) 0 most n → ((s : ℕ) → s < n → b s ≡ max (a s) (cond (leb t s) (behind f n s) 0)) → xs ≡ padded b 0 most n
+    raised_all t b e h = e ∙ padded_ext (raised_from f n a t) b 0 most n (λ s k. each (leb t s) (a s) (behind f n s) ∙ sym (h s k))
       where
         each : (c : Bool) (x y : ℕ) → cond c (max x y) x ≡ max x (cond c y 0)
         each true x y = refl

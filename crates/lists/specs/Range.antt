@@ -1,6 +1,6 @@
 -- Ranges: "the first that …", "the sum over …", "the largest over …", "every …", and the list of all, each defined once.
 -- A range is given by how many numbers it has; it starts from 0, or from the number named. Assumes nothing.
-use Rattle.std.specs.Prelude.{ℕ, zero, suc, ◌+◌, ◌-◌, max, Bool, true, cond, ◌&&◌, List, [], ◌∷◌, ◌++◌, eqb, ltb, replicate}
+use Rattle.std.specs.Prelude.{ℕ, zero, suc, ◌+◌, ◌-◌, max, Bool, true, cond, ◌&&◌, List, [], ◌∷◌, ◌++◌, eqb, leb, ltb, replicate}
 use Rattle.std.proofs.Math.Option.{Option, none, some}
 
 -- f 0 + f 1 + … + f (n − 1).
@@ -16,6 +16,10 @@ largest_to f (suc n) = max (largest_to f n) (f n)
 -- The largest of f (s + 1), f (s + 2), …, f (n − 1); 0 where there is none.
 unfoldable pub behind : (ℕ → ℕ) → ℕ → ℕ → ℕ
 behind f n s = largest_to (λ t. cond (ltb s t) (f t) 0) n
+
+-- a s, and from t on raised to the largest of f behind s, among the first n.
+abbrev pub raised_from : (ℕ → ℕ) → ℕ → (ℕ → ℕ) → ℕ → ℕ → ℕ
+raised_from f n a t s = cond (leb t s) (max (a s) (behind f n s)) (a s)
 
 -- Whether each of 0, 1, …, n − 1 passes the test.
 unfoldable pub all_to : (ℕ → Bool) → ℕ → Bool

@@ -15,6 +15,7 @@ use crate::interfaces::{budget, held, period};
 use crate::shown::Shown;
 use least::LoadList;
 use table::Table;
+use table::slots::filled;
 
 // What the rows of all subsystems share: P(s), Q(s) + X(s), what that leaves free of P(s), and B(s), of each subsystem, and RC(l) of
 // each resource. Slots past the counts are 0.
@@ -48,19 +49,6 @@ pub(crate) fn outer_ceiling(shown: &Shown, l: usize) -> usize
     (0..shown.n)
         .find(|s| 0 < held(shown.lines, *s, l))
         .unwrap_or(shown.n - 1)
-}
-
-// An array of the first n values, and `empty` in the slots past them.
-fn filled<T: Copy, F: Fn(usize) -> T>(n: usize, empty: T, value: F) -> [T; Table::MOST]
-    requires n_le_most { n ≤ most }
-    requires callable { (s : ℕ) → s < n → F.pre value s }
-    ensures { (f : ℕ → T) → ((s : ℕ) (x : T) → s < n → F.post value s x → x ≡ f s) → result ≡ padded f empty most n }
-{
-    let mut slots = [empty; Table::MOST];
-    for s in 0..n {
-        slots[s] = value(s);
-    }
-    slots
 }
 
 // The period of each subsystem.

@@ -8,6 +8,7 @@ ghost use Rattle.table.specs.Limits.{most, largest, horizon};
 ghost use Rattle.table.specs.Zeros.{zero_task, zero_subsystem, zero_table};
 
 pub mod grid;
+pub mod slots;
 
 // A task: minimum separation T, work C, deadline D, and for each resource its longest access c, 0 meaning no access.
 #[derive(Clone, Copy, Default)]

@@ -2,7 +2,7 @@ use mathlib.Core.Path.{sym}
 use native.Mathlib.Omega.{arith}
 use Rattle.lists.proofs.UpTo.{padded_none, padded_turn}
 use Rattle.table.specs.Limits.{most}
-use Rattle.outer.proofs.ceilings.filled.Goals as goal
+use Rattle.table.proofs.slots.filled.Goals as goal
 
 pub loop-s-init : goal.loop-s-init
 loop-s-init g c = λ f is. sym (padded_none f c.args.empty most)
