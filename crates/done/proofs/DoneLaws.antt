@@ -101,9 +101,3 @@ module _ (v : View) where
           sym there ∙ sym (largest_alone (response_with v k) (resources v) l a.within (not_held k)) ∙ response_with_lem v k more,
           add-one l ∙ ap suc (sym (first_alone (response_with v k) (resources v) l a.within (not_held k) (omega (arith, there, u)))) ∙ resource_with v k more,
         )
-
--- The same for a resource that is counted from 1, as rows have it.
-pub ends_done_lone : (v : View) {lone : ℕ} → 1 ≤ lone → Alone v.holdings v.ceilings v.place (lone - 1) → EndsDone v lone
-ends_done_lone v {lone} h a =
-    let e : lone - 1 + 1 ≡ lone = omega arith in
-    subst (λ (x : ℕ). EndsDone v x) e (ends_done_alone v a)

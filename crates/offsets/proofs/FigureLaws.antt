@@ -20,7 +20,7 @@ use Rattle.stored.proofs.WriteSteps.{put_the_same}
 use Rattle.offsets.specs.declared.Judgement.{Judgement}
 use Rattle.offsets.specs.Judgement.{table_judgement, place_size, place_bytes}
 use Rattle.offsets.specs.Figures.{outcome_number, flag, row_figures, head_figures, figures, counted, figures_of, head_count, row_count}
-use Rattle.offsets.proofs.Elements.{element_at, all_elements}
+use Rattle.stored.proofs.Elements.{element_at, all_elements}
 
 ------------------------------------------------------------------------
 -- Numbers in a row

@@ -1,5 +1,4 @@
 -- Laws of the definitions in specs/, by subject.
-pub mod Elements
 pub mod FigureLaws
 pub mod JudgementLaws
 pub mod ReadLaws

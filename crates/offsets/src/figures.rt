@@ -16,7 +16,7 @@ use report::Report;
 use row::{Outcome, Row};
 use rows::no_row;
 use rules::Judged;
-use stored::number::put_number;
+use stored::number::put_numbers;
 use table::Table;
 use table::grid::{BLOCK, LINE};
 use wording::response;
@@ -52,18 +52,6 @@ fn stated_count(judged: Judged, n: u8) -> u32
         Ok(()) => u32::from(n),
         Err(_) => 0,
     }
-}
-
-// Several numbers.
-fn put_numbers(free: &mut [u8], numbers: &[u32]) -> usize
-    requires { number_size * length numbers.now ≤ length free.old }
-    ensures { IsPut (flat_map number_bytes numbers.now) free.old free.new result }
-{
-    let mut at = 0;
-    for &x in numbers {
-        at += put_number(&mut free[at..], x);
-    }
-    at
 }
 
 // The figures before the rows.

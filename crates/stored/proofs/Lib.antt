@@ -20,3 +20,4 @@ pub mod RoundTrips
 pub mod WholeCounts
 pub mod HeldLaws
 pub mod OffsetLaws
+pub mod Elements

@@ -68,13 +68,6 @@ big_endian_of_spelled (b ∷ bs) h =
 ------------------------------------------------------------------------
 -- Four bytes at an offset, and four stores
 
-pub four_stores : (buf : List ℕ) (a b c d : ℕ) → 4 ≤ length buf → set (set (set (set buf 0 a) 1 b) 2 c) 3 d ≡ a ∷ b ∷ c ∷ d ∷ drop 4 buf
-four_stores [] a b c d h = absurd (omega arith)
-four_stores (w ∷ []) a b c d h = absurd (omega arith)
-four_stores (w ∷ x ∷ []) a b c d h = absurd (omega arith)
-four_stores (w ∷ x ∷ y ∷ []) a b c d h = absurd (omega arith)
-four_stores (w ∷ x ∷ y ∷ z ∷ rest) a b c d h = refl
-
 pub big_endian_four : (x : ℕ) → big_endian 4 x ≡ x / 16777216 % 256 ∷ x / 65536 % 256 ∷ x / 256 % 256 ∷ x % 256 ∷ []
 unfolding big_endian
 big_endian_four x = ap (λ (y : ℕ). x / 16777216 % 256 ∷ x / 65536 % 256 ∷ x / 256 % 256 ∷ y % 256 ∷ []) (div-one x)

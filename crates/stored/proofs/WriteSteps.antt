@@ -6,9 +6,10 @@ use native.Mathlib.Omega.{arith}
 use mathlib.Core.Path.{◌≡◌, refl, sym, ap, ap₂, ◌∙◌}
 use mathlib.Core.List.{List, [], ◌∷◌, ◌++◌, append_assoc, append-nil, flat_map}
 use lib.ListN.{length, get_or, take, drop, set, length-append, length-take, length-drop, drop_of_length-le}
-use lib.Seq.{take_at, drop_at, drop-drop, get_or-take}
+use lib.Seq.{ext_get_or, take_at, drop_at, drop-drop, get_or-take}
 use Rattle.std.specs.Int.{w32, w64, to_be_bytes}
 use Rattle.lists.specs.Range.{up_to}
+use Rattle.lists.proofs.UpTo.{length_up_to, get_d_up_to}
 use Rattle.stored.specs.Numbers.{big_endian, number_size}
 use Rattle.stored.specs.Field.{start_size, field}
 use Rattle.stored.specs.File.{number_bytes}
@@ -81,6 +82,12 @@ module _ {A : Type 0} (k i : ℕ) (xs : List A) (h : i < length (take k xs)) whe
 
   pub bytes_of_element : (g : A → List ℕ) (d : A) → g (get_or (take k xs) i d) ≡ g (get_or xs i d)
   bytes_of_element g d = ap g (get_or-take k xs i d (among_the_first k refl))
+
+-- The first m elements, one by one.
+pub first_elements : {A : Type 0} (d : A) (xs : List A) (m : ℕ) → m ≤ length xs → take m xs ≡ up_to (λ i. get_or xs i d) m
+first_elements d xs m h =
+    ext_get_or d (take m xs) (up_to (λ i. get_or xs i d) m) (omega (arith, length-take m xs, length_up_to (λ i. get_or xs i d) m, h))
+    λ i k. let within : i < m = omega (arith, k, length-take m xs, h) in get_or-take m xs i d within ∙ sym (get_d_up_to (λ j. get_or xs j d) m i d within)
 
 -- The same bytes in other words.
 pub put_the_same : (bytes others before after : List ℕ) (n : ℕ) → bytes ≡ others → IsPut bytes before after n → IsPut others before after n

@@ -12,7 +12,7 @@ ghost use Rattle.stored.specs.Write.{IsPut};
 
 use stored::decode::TASK_START;
 use stored::fields::{HEADER, HEADER_LENGTH, START, SUBSYSTEM, SUBSYSTEM_LENGTH, TASK, VERSION};
-use stored::number::{NUMBER, put_number};
+use stored::number::{NUMBER, put_number, put_numbers};
 use table::{Subsystem, Task};
 
 // Tag and length.
@@ -48,11 +48,7 @@ fn put_accesses(free: &mut [u8], task: Task, m: usize) -> usize
     requires { (m ≤ most) × (length (flat_map number_bytes (up_to (access_at task) m)) ≤ length free.old) }
     ensures { IsPut (flat_map number_bytes (up_to (access_at task) m)) free.old free.new result }
 {
-    let mut at = 0;
-    for &c in &task.access[..m] {
-        at += put_number(&mut free[at..], c);
-    }
-    at
+    put_numbers(free, &task.access[..m])
 }
 
 // Two numbers.

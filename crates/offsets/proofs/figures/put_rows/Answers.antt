@@ -6,7 +6,7 @@ use Rattle.report.specs.Report.{past_rows}
 use Rattle.stored.specs.Numbers.{number_size}
 use Rattle.stored.proofs.WriteSteps.{put_keeps_length, list_begins, list_starts_within, list_has_room, list_ends_within, list_goes_on, list_ends}
 use Rattle.offsets.specs.Figures.{row_count}
-use Rattle.offsets.proofs.Elements.{element_at}
+use Rattle.stored.proofs.Elements.{element_at}
 use Rattle.offsets.proofs.FigureLaws.{row_bytes, length_row_bytes, eight_rows_have_room, rows_are_put}
 use native.Mathlib.Omega.{arith}
 use Rattle.offsets.proofs.figures.put_rows.Goals as goal

@@ -3,7 +3,7 @@ use mathlib.Core.List.{flat_map}
 use Rattle.lists.specs.Range.{up_to}
 use Rattle.report.specs.Report.{past_rows}
 use Rattle.stored.specs.Write.{IsPut}
-use Rattle.offsets.proofs.Elements.{element_at}
+use Rattle.stored.proofs.Elements.{element_at}
 use Rattle.offsets.proofs.FigureLaws.{row_bytes}
 use Rattle.offsets.proofs.figures.put_rows.Given as goal
 

@@ -1,5 +1,5 @@
 -- `offsets::judging::judge_file` meets its contract. Assumes nothing.
-use mathlib.Core.Path.{refl, sym, ap}
+use mathlib.Core.Path.{sym, ap}
 use Rattle.table.proofs.GridLaws.{blank_blocks}
 use Rattle.reader.specs.Reader.{answer_by}
 use Rattle.reader.proofs.WholeGrids.{grid_means_table, grid_counts_pass}

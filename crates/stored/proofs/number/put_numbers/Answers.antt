@@ -3,9 +3,9 @@ use Rattle.stored.specs.Numbers.{number_size}
 use Rattle.stored.specs.File.{number_bytes}
 use Rattle.stored.proofs.FileLaws.{length_number_bytes}
 use Rattle.stored.proofs.WriteSteps.{put_keeps_length, list_begins, list_starts_within, list_has_room, list_ends_within, list_goes_on, list_ends}
-use Rattle.offsets.proofs.Elements.{element_at, numbers_have_room, numbers_are_put}
+use Rattle.stored.proofs.Elements.{element_at, numbers_have_room, numbers_are_put}
 use native.Mathlib.Omega.{arith}
-use Rattle.offsets.proofs.figures.put_numbers.Goals as goal
+use Rattle.stored.proofs.number.put_numbers.Goals as goal
 
 pub loop-x-init : goal.loop-x-init
 loop-x-init c =
