@@ -41,11 +41,16 @@ module _ (ends : List ℕ) (t x period cost free bound : ℕ) (b : Behind (get_o
   by_parts k = ap (λ (y : ℕ). k * y) (sym b.parts) ∙ mul-add k free cost
 
   -- Without a free tick it is never ahead.
+  never_ahead : free ≡ 0 → (p : ℕ) → Ahead end x period cost p → ⊥
+  never_ahead none p a = omega (arith, b.late, a, by_parts p, ap (λ (k : ℕ). p * k) none)
+
+  pub never_small : free ≡ 0 → bound < reach
+  never_small none = ⊎_elim (λ (u : bound < reach). u) (λ u. absurd (never_ahead none u.0 u.1)) b.within
+
   pub never : free ≡ 0 → CaughtUp ends t x period cost bound ends reach
   never none =
-      let behind : (p : ℕ) → Ahead end x period cost p → ⊥ = λ p a. omega (arith, b.late, a, by_parts p, ap (λ (k : ℕ). p * k) none) in
-      let small : bound < reach = ⊎_elim (λ (u : bound < reach). u) (λ u. absurd (behind u.0 u.1)) b.within in
-      record { least = λ u. absurd (omega arith); too_much = λ u p a. absurd (behind p a); same_length = refl }
+      let small = never_small none in
+      record { least = λ u. absurd (omega arith); too_much = λ u p a. absurd (never_ahead none p a); same_length = refl }
 
   module _ (some : 1 ≤ free) where
     abbrev times : ℕ
@@ -65,7 +70,7 @@ module _ (ends : List ℕ) (t x period cost free bound : ℕ) (b : Behind (get_o
     in_reach h =
         ⊎_elim (λ (u : bound < reach). omega arith) (λ u. omega (arith, least_asked u.0 u.1, u.2)) b.within
 
-    bound_small : bound < x + times * cost → bound < reach
+    pub bound_small : bound < x + times * cost → bound < reach
     bound_small h =
         ⊎_elim (λ (u : bound < reach). u) (λ u. omega (arith, least_asked u.0 u.1, u.2)) b.within
 

@@ -3,3 +3,4 @@ pub mod CatchLaws
 pub mod ClimbLaws
 pub mod AdvanceLaws
 pub mod PassLaws
+pub mod AnswerLaws

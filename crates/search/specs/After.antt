@@ -1,6 +1,6 @@
 -- A search that goes on from y ticks, where an earlier one ended: what is asked for after y ticks, what has been asked for by then,
 -- and what the search finds. Assumes nothing.
-use Rattle.std.specs.Prelude.{ℕ, ◌+◌, ◌-◌, ◌*◌, ◌^◌, ◌≤◌, ◌<◌, ◌≡◌, ◌⊎◌, List, length, get_or, set}
+use Rattle.std.specs.Prelude.{ℕ, ◌+◌, ◌-◌, ◌*◌, ◌^◌, ◌≤◌, ◌<◌, ◌≡◌, ◌⊎◌, List, length, get_or, set, Option, IfSome, IfNone}
 use Rattle.least.specs.Up.{up}
 use Rattle.least.specs.Demand.{demand, total}
 use Rattle.least.specs.Search.{Loads, Stands, Starts, ComesDown, IsLeast, reach}
@@ -64,6 +64,14 @@ pub record Found (periods costs ends : List ℕ) (n constant bound r : ℕ) : Ty
   pub ends_at : r ≤ bound → EndsAt periods ends n r
   pub beyond : bound < r → (z : ℕ) → 1 ≤ z → z ≡ total periods costs n constant z → bound < z
 
+-- The same as the code answers it: the least solution, at most the bound, with the ends of the periods begun by then; or none, where
+-- no solution is at or below the bound.
+pub record FoundOr (periods costs ends : List ℕ) (n constant bound : ℕ) (found : Option ℕ) : Type 0 where
+  pub within : IfSome found (λ r. r ≤ bound)
+  pub at : IfSome found (λ r. IsLeast (total periods costs n constant) r)
+  pub ends_at : IfSome found (λ r. EndsAt periods ends n r)
+  pub beyond : IfNone found ((z : ℕ) → 1 ≤ z → z ≡ total periods costs n constant z → bound < z)
+
 -- A load whose last period has ended at `end`, before x, asks again, q times. It has caught up where its last period ends at or
 -- after what there is then to do.
 abbrev pub Ahead : (end x period cost q : ℕ) → Type 0
@@ -87,6 +95,13 @@ pub record Behind (end x period cost free bound : ℕ) : Type 0 where
 pub record CaughtUp (ends : List ℕ) (t x period cost bound : ℕ) (after : List ℕ) (r : ℕ) : Type 0 where
   pub least : r ≤ bound → (q : ℕ) × (after ≡ set ends t (get_or ends t 0 + q * period)) × (r ≡ x + q * cost) × Ahead (get_or ends t 0) x period cost q × ((p : ℕ) → Ahead (get_or ends t 0) x period cost p → q ≤ p)
   pub too_much : bound < r → (p : ℕ) → Ahead (get_or ends t 0) x period cost p → bound < x + p * cost
+  pub same_length : length after ≡ length ends
+
+-- The same as the code answers it: what there is then to do, at most the bound; or none, where it would be too much.
+pub record CaughtUpOr (ends : List ℕ) (t x period cost bound : ℕ) (after : List ℕ) (caught : Option ℕ) : Type 0 where
+  pub within : IfSome caught (λ r. r ≤ bound)
+  pub least : IfSome caught (λ r. (q : ℕ) × (after ≡ set ends t (get_or ends t 0 + q * period)) × (r ≡ x + q * cost) × Ahead (get_or ends t 0) x period cost q × ((p : ℕ) → Ahead (get_or ends t 0) x period cost p → q ≤ p))
+  pub too_much : IfNone caught ((p : ℕ) → Ahead (get_or ends t 0) x period cost p → bound < x + p * cost)
   pub same_length : length after ≡ length ends
 
 -- Each load asks on until its last period ends at or after `start`. Where the ends were those of the periods begun by y, and x was what

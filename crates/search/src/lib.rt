@@ -7,9 +7,9 @@
 ghost use Rattle.std.specs.Prelude.{◌≡◌, ◌^◌, ◌≤◌, ◌<◌, length, get_or};
 ghost use Rattle.least.specs.Demand.{total};
 ghost use Rattle.least.specs.Search.{ComesDown, IsLeast, reach};
-ghost use Rattle.search.specs.After.{Fit, Periods, EndsAt, slots, afterwards, After, Bounded, Found, Behind, CaughtUp, Advanced};
+ghost use Rattle.search.specs.After.{Fit, Periods, EndsAt, slots, afterwards, After, Bounded, FoundOr, Behind, CaughtUpOr, Advanced};
 
-use least::{LoadList, REACH, round_up};
+use least::{LoadList, round_up};
 
 // How many loads a search may have.
 pub const SLOTS: usize = 8;
@@ -51,35 +51,38 @@ pub struct Asking<'a> {
 
 impl<'a> Asking<'a> {
     // Load t, whose last period has ended before x, asks again until it is ahead: most often once, else as often as the ticks that its
-    // periods leave free make up for what it is behind. A load that leaves none free never is. What there is then to do; above the
-    // bound where it would be too much.
-    fn ask(&self, t: usize, ends: &mut [u32; SLOTS], x: u32, bound: u64) -> u32
+    // periods leave free make up for what it is behind. A load that leaves none free never is. What there is then to do, where that is
+    // at most the bound.
+    fn ask(&self, t: usize, ends: &mut [u32; SLOTS], x: u32, bound: u64) -> Option<u32>
         requires t_lt_slots { (t < slots) × (t < length self.now.loads.periods.now) × (t < length self.now.loads.costs.now) × (t < length self.now.frees.now) × (t < length ends.old) }
         requires behind { Behind (get_or ends.old t 0) x (get_or self.now.loads.periods.now t 0) (get_or self.now.loads.costs.now t 0) (get_or self.now.frees.now t 0) bound }
-        ensures { CaughtUp ends.old t x (get_or self.now.loads.periods.now t 0) (get_or self.now.loads.costs.now t 0) bound ends.new result }
+        ensures { CaughtUpOr ends.old t x (get_or self.now.loads.periods.now t 0) (get_or self.now.loads.costs.now t 0) bound ends.new result }
     {
         let end = ends[t];
         let behind = x - end;
         let free = self.frees[t];
         if behind <= free {
             ends[t] = end + self.loads.periods[t];
-            return x + self.loads.costs[t];
+            let once = x + self.loads.costs[t];
+            if bound < u64::from(once) {
+                return None;
+            }
+            return Some(once);
         }
         if free == 0 {
-            return REACH;
+            return None;
         }
         let times = round_up(behind, free);
         let reached = u64::from(x) + u64::from(times) * u64::from(self.loads.costs[t]);
         if bound < reached {
-            return REACH;
+            return None;
         }
         ends[t] = end + times * self.loads.periods[t];
-        reached as u32
+        Some(reached as u32)
     }
 
-    // The search: the least solution after y ticks, with `more` ticks to do besides the first n loads, where it is at most the bound; else
-    // something above the bound. The bound is within reach, or a solution is, and then any bound will do. No solution lies before
-    // `start`. `ends` holds the ends of the periods begun by y, and then of those begun by the solution. It goes over all loads in
+    // The search: the least solution after y ticks, with `more` ticks to do besides the first n loads, where it is at most the bound.
+    // The bound is within reach, or a solution is, and then any bound will do. No solution lies before `start`. `ends` holds the ends of the periods begun by y, and then of those begun by the solution. It goes over all loads in
     // passes, up to one in which none asks: all are ahead then. Two instructions spared at every load are worth more than the last pass.
     // `inline` asks for this function and the two below to become part of their callers, and the search goes by a copy of what is asked:
     // so its loops need not look up where the slices lie.
@@ -92,37 +95,34 @@ impl<'a> Asking<'a> {
         more: u32,
         start: u32,
         bound: u64,
-    ) -> u32
+    ) -> Option<u32>
         requires after { After self.now.loads.periods.now self.now.loads.costs.now self.now.frees.now ends.old n y more start }
         requires bounded { Bounded (total self.now.loads.periods.now self.now.loads.costs.now n (afterwards self.now.loads.periods.now self.now.loads.costs.now n y more)) bound }
-        ensures found { Found self.now.loads.periods.now self.now.loads.costs.now ends.new n (afterwards self.now.loads.periods.now self.now.loads.costs.now n y more) bound result }
+        ensures found { FoundOr self.now.loads.periods.now self.now.loads.costs.now ends.new n (afterwards self.now.loads.periods.now self.now.loads.costs.now n y more) bound result }
         ensures ends_len_unchanged { length ends.new ≡ length ends.old }
     {
         let asking = *self;
         let mut x = y + more;
         if x < start {
             x = advanced(&asking.loads, n, ends, x, start);
-            if bound < u64::from(x) {
-                return x;
-            }
+        }
+        if bound < u64::from(x) {
+            return None;
         }
         'passes: loop {
             let before = x;
             for t in 0..n {
                 if ends[t] < x {
-                    x = asking.ask(t, ends, x, bound);
-                    if bound < u64::from(x) {
-                        return x;
-                    }
+                    x = asking.ask(t, ends, x, bound)?;
                 }
             }
             if x == before {
-                return x;
+                return Some(x);
             }
         }
     }
 
-    // The least solution after y ticks where it is at most the bound; else something above the bound.
+    // The least solution after y ticks where it is at most the bound; None where no solution is.
     #[inline]
     pub fn least_after(
         &self,
@@ -132,10 +132,10 @@ impl<'a> Asking<'a> {
         more: u32,
         start: u32,
         bound: u32,
-    ) -> u32
+    ) -> Option<u32>
         requires after { After self.now.loads.periods.now self.now.loads.costs.now self.now.frees.now ends.old n y more start }
         requires bound_lt_reach { bound < reach }
-        ensures found { Found self.now.loads.periods.now self.now.loads.costs.now ends.new n (afterwards self.now.loads.periods.now self.now.loads.costs.now n y more) bound result }
+        ensures found { FoundOr self.now.loads.periods.now self.now.loads.costs.now ends.new n (afterwards self.now.loads.periods.now self.now.loads.costs.now n y more) bound result }
         ensures ends_len_unchanged { length ends.new ≡ length ends.old }
     {
         self.climb(n, ends, y, more, start, u64::from(bound))
@@ -156,6 +156,9 @@ impl<'a> Asking<'a> {
         ensures least { IsLeast (total self.now.loads.periods.now self.now.loads.costs.now n (afterwards self.now.loads.periods.now self.now.loads.costs.now n y more)) result }
         ensures ends_at { EndsAt self.now.loads.periods.now ends.new n result × (length ends.new ≡ length ends.old) }
     {
-        self.climb(n, ends, y, more, start, u64::MAX)
+        let Some(x) = self.climb(n, ends, y, more, start, u64::MAX) else {
+            unreachable!()
+        };
+        x
     }
 }
