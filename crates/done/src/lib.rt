@@ -88,10 +88,10 @@ pub fn row_by_jobs(seen: &Seen, first: u32, firsts: [u32; Table::MOST], resource
     let mut k: u32 = 0;
     let mut release = own.period;
     while release < end {
-        end = seen.asking.least_after(s, &mut ends, end, more, 0, HORIZON);
-        if HORIZON < end {
+        let Some(next) = seen.asking.least_after(s, &mut ends, end, more, 0, HORIZON) else {
             return row_without(own, more);
-        }
+        };
+        end = next;
         k += 1;
         let response = end - release;
         let job = Job {
@@ -117,9 +117,8 @@ pub fn row_alone(seen: &Seen, first: u32, firsts: [u32; Table::MOST], lone: usiz
     let cost = asking.loads.costs[s];
     let held = cost - own.budget;
     let mut ends = firsts;
-    let done = asking.least_after(s, &mut ends, first, held, 0, HORIZON);
-    if HORIZON < done {
+    let Some(done) = asking.least_after(s, &mut ends, first, held, 0, HORIZON) else {
         return row_without(own, cost);
-    }
+    };
     row_by_jobs(seen, done, ends, lone as u32 + 1)
 }

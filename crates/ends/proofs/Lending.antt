@@ -1,6 +1,6 @@
 -- What the functions here lend of interfaces and of what their rows share, for the subsystem with index s: laws of crate job, put
 -- together once. Assumes nothing.
-use Prim.Native.Nat.{ℕ, ◌+◌, ◌≤◌, ◌<◌}
+use Prim.Native.Nat.{ℕ, ◌+◌, ◌<◌}
 use native.Mathlib.Omega.{arith}
 use mathlib.Core.Path.{◌≡◌}
 use mathlib.Core.List.{List}

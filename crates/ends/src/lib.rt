@@ -59,10 +59,10 @@ pub fn jobs_of(known: &Known, s: usize) -> u32
     let mut ends = [0u32; Table::MOST];
     ends_at(asking.loads.periods, s + 1, 1, &mut ends);
     let once = asking.loads.demand_in(s + 1, 1) as u32;
-    let active = asking.least_after(s + 1, &mut ends, 1, blocking + once - 1, 0, HORIZON);
-    if HORIZON < active {
+    let Some(active) = asking.least_after(s + 1, &mut ends, 1, blocking + once - 1, 0, HORIZON)
+    else {
         return 0;
-    }
+    };
     round_up(active, known.common.periods[s])
 }
 

@@ -3,7 +3,7 @@
 // is proved, and the crate assumes nothing. Indices count from 0; document 01 counts from 1.
 #![tactic(auto)]
 
-ghost use Rattle.std.specs.Prelude.{◌≡◌, ℕ, ◌+◌, ◌≤◌, ◌<◌};
+ghost use Rattle.std.specs.Prelude.{◌≡◌, ℕ, ◌+◌, ◌≤◌, ◌<◌, MatchOption};
 ghost use Rattle.std.proofs.Math.Option.{none, some};
 ghost use Rattle.least.specs.Demand.{total};
 ghost use Rattle.least.specs.Search.{Starts};
@@ -16,7 +16,7 @@ ghost use Rattle.row.specs.Row.{judged, row_for, row_of};
 ghost use Rattle.outer.specs.Blocking.{blocking};
 ghost use Rattle.outer.specs.Common.{Lent};
 ghost use Rattle.job.specs.Seen.{view_in};
-ghost use Rattle.job.specs.Sound.{FirstEnd, Active};
+ghost use Rattle.job.specs.Sound.{FirstEnd};
 
 use done::{lone_on_the_way, nearly_all, on_the_way, row_alone, row_by_jobs};
 use job::{HORIZON, Own, Seen};
@@ -77,11 +77,11 @@ fn active_start(seen: &Seen, far: bool) -> u32
     standing(seen.own.blocking, spare)
 }
 
-// The active period, where it is at most the horizon; else something above it. The search goes on from the first budget end: by
+// The active period, where there is one within the horizon. The search goes on from the first budget end: by
 // then what blocks and the higher subsystems' periods are waited for in any case, and so are the subsystem's own that have begun.
-fn active_from(seen: &Seen, first: u32, ends: [u32; Table::MOST], far: bool) -> u32
+fn active_from(seen: &Seen, first: u32, ends: [u32; Table::MOST], far: bool) -> Option<u32>
     requires first_end { FirstEnd (view_in seen.now) ends first }
-    ensures { Active (view_in seen.now) result }
+    ensures { MatchOption result (active_period (view_in seen.now) ≡ none) (λ active. active_period (view_in seen.now) ≡ some active) }
 {
     let own = &seen.own;
     let asking = &seen.asking;
@@ -102,10 +102,9 @@ fn row_searched(seen: &Seen, first: u32, ends: [u32; Table::MOST], far: bool) ->
 {
     let own = seen.own;
     let cost = seen.asking.loads.costs[own.place];
-    let active = active_from(seen, first, ends, far);
-    if HORIZON < active {
+    let Some(active) = active_from(seen, first, ends, far) else {
         return row_without(own, cost);
-    }
+    };
     if nearly_all(own, cost, first, active) {
         return row_by_jobs(seen, first, ends, 0);
     }
@@ -128,10 +127,9 @@ fn row_seen(seen: &Seen, fits: usize) -> Row
     }
     let mut ends = [0u32; Table::MOST];
     let ahead = own.blocking + own.budget;
-    let first = seen.asking.least_after(s, &mut ends, 0, ahead, 0, HORIZON);
-    if HORIZON < first {
+    let Some(first) = seen.asking.least_after(s, &mut ends, 0, ahead, 0, HORIZON) else {
         return row_without(own, cost);
-    }
+    };
     let far = may_be_far(seen, first);
     if let Some(lone) = lone_on_the_way(seen.holdings, seen.ceilings, own, cost, far) {
         return row_alone(seen, first, ends, lone);

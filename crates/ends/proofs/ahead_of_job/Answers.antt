@@ -1,9 +1,7 @@
 -- `ends::ahead_of_job` meets its contract: the jobs before job k take less than the active period. Assumes nothing.
-use Prim.Native.Nat.{◌+◌, ◌<◌}
+use Prim.Native.Nat.{◌+◌}
 use native.Mathlib.Omega.{arith}
 use mathlib.Core.Path.{ap₂, ◌∙◌}
-use Rattle.table.specs.Limits.{most}
-use Rattle.outer.proofs.Slots.{few_of}
 use Rattle.job.proofs.ActiveLaws.{active_within}
 use Rattle.job.proofs.LentLaws.{lent_sound, ahead_lent, jobs_before}
 use Rattle.ends.proofs.ahead_of_job.Goals as goal

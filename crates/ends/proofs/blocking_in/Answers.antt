@@ -1,8 +1,4 @@
 -- `ends::blocking_in` meets its contract: B(s) is in its slot. Assumes nothing.
-use Prim.Native.Nat.{◌<◌}
-use native.Mathlib.Omega.{arith}
-use Rattle.table.specs.Limits.{most}
-use Rattle.outer.proofs.Slots.{few_of}
 use Rattle.job.proofs.LentLaws as lent
 use Rattle.ends.proofs.blocking_in.Goals as goal
 

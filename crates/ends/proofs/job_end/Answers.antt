@@ -1,12 +1,9 @@
 -- `ends::job_end` meets its contract: what it lends are the loads, and the search from the budget's end finds the
 -- job's. Assumes nothing.
-use Prim.Native.Nat.{◌<◌}
 use native.Mathlib.Omega.{arith}
 use mathlib.Core.Path.{◌∙◌}
-use lib.ListN.{get_or, take}
+use lib.ListN.{get_or}
 use Rattle.search.specs.After.{Frees}
-use Rattle.table.specs.Limits.{most}
-use Rattle.outer.proofs.Slots.{few_of, few_resources_of}
 use Rattle.job.specs.View.{view_of}
 use Rattle.job.proofs.LentLaws as lent
 use Rattle.job.proofs.WaitLaws.{frees_fewer}

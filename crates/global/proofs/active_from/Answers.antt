@@ -7,7 +7,8 @@ use Rattle.least.proofs.Up.{up_is_tight}
 use Rattle.job.specs.View.{cost}
 use Rattle.job.specs.Seen.{view_in}
 use Rattle.job.proofs.ActiveLaws.{period_pos}
-use Rattle.job.proofs.WaitLaws.{own_holds, own_small, blocking_left, active_after, active_found}
+use Rattle.job.proofs.WaitLaws.{own_holds, own_small, blocking_left, active_after}
+use Rattle.global.proofs.ActiveFound.{active_answer}
 use native.Mathlib.Omega.{arith}
 use Rattle.global.proofs.active_from.Goals as goal
 
@@ -37,4 +38,4 @@ pub returns : goal.returns
 returns c =
     let asked_is : c.round_up-begun.result * get_or c.args.seen.now.asking.loads.costs.now c.args.seen.now.own.place 0 ≡ up c.args.first (view_in c.args.seen.now).period * cost (view_in c.args.seen.now) = ap₂ ◌*◌ c.round_up-begun.ensures c.args.seen.now.sound.own_cost in
     let more_is : c.round_up-begun.result * get_or c.args.seen.now.asking.loads.costs.now c.args.seen.now.own.place 0 - c.args.seen.now.own.budget ≡ up c.args.first (view_in c.args.seen.now).period * cost (view_in c.args.seen.now) - (view_in c.args.seen.now).budget = ap (λ (x : ℕ). x - c.args.seen.now.own.budget) asked_is in
-    active_found _ c.args.seen.now.sound (rw (more_is, blocking_left _ c.args.seen.now.sound c.requires.first_end) at c.least_after.ensures.found)
+    active_answer _ c.args.seen.now.sound _ (rw (more_is, blocking_left _ c.args.seen.now.sound c.requires.first_end) at c.least_after.ensures.found)
