@@ -52,7 +52,7 @@ pub struct Asking<'a> {
 impl<'a> Asking<'a> {
     // Load t, whose last period has ended before x, asks again until it is ahead: most often once, else as often as the ticks that its
     // periods leave free make up for what it is behind. A load that leaves none free never is. What there is then to do, where that is
-    // at most the bound.
+    // at most the bound; each way asks for that itself, so that the one that asks once multiplies nothing.
     fn ask(&self, t: usize, ends: &mut [u32; SLOTS], x: u32, bound: u64) -> Option<u32>
         requires t_lt_slots { (t < slots) × (t < length self.now.loads.periods.now) × (t < length self.now.loads.costs.now) × (t < length self.now.frees.now) × (t < length ends.old) }
         requires behind { Behind (get_or ends.old t 0) x (get_or self.now.loads.periods.now t 0) (get_or self.now.loads.costs.now t 0) (get_or self.now.frees.now t 0) bound }
@@ -81,9 +81,10 @@ impl<'a> Asking<'a> {
         Some(reached as u32)
     }
 
-    // The search: the least solution after y ticks, with `more` ticks to do besides the first n loads, where it is at most the bound.
-    // The bound is within reach, or a solution is, and then any bound will do. No solution lies before `start`. `ends` holds the ends of the periods begun by y, and then of those begun by the solution. It goes over all loads in
-    // passes, up to one in which none asks: all are ahead then. Two instructions spared at every load are worth more than the last pass.
+    // The search: the least solution after y ticks, with `more` ticks to do besides the first n loads, where it is at most the bound. The
+    // bound is within reach, or a solution is, and then any bound will do. No solution lies before `start`. `ends` holds the ends of the
+    // periods begun by y, and then of those begun by the solution. It goes over all loads in passes, up to one in which none asks: all are
+    // ahead then. Two instructions spared at every load are worth more than the last pass.
     // `inline` asks for this function and the two below to become part of their callers, and the search goes by a copy of what is asked:
     // so its loops need not look up where the slices lie.
     #[inline]
@@ -122,7 +123,7 @@ impl<'a> Asking<'a> {
         }
     }
 
-    // The least solution after y ticks where it is at most the bound; None where no solution is.
+    // The least solution after y ticks, where it is at most the bound.
     #[inline]
     pub fn least_after(
         &self,
