@@ -1,11 +1,11 @@
 -- Laws of numbers as bytes: bytes and the number that they spell determine each other. Assumes nothing.
-use Prim.Native.Nat.{ℕ, zero, suc, ◌+◌, ◌*◌, ◌/◌, ◌%◌, ◌^◌, ◌≤◌, ◌<◌}
+use Prim.Native.Nat.{ℕ, zero, suc, ◌+◌, ◌*◌, ◌/◌, ◌%◌, ◌^◌, ◌<◌}
 use native.Mathlib.Nat.{mod-lt, mod-eq_of_lt, mul_assoc, pow-succ', div-one, mod-one, pow-le-pow_right, mul-add-div_right, mul-add-mod_self_right}
 use native.Mathlib.Omega.{arith}
 use mathlib.Core.Path.{◌≡◌, refl, sym, ap, ap₂, ◌∙◌}
 use mathlib.Core.List.{List, [], ◌∷◌}
 use lib.Arith.{digits_div, digits_lt, mod-mul}
-use lib.ListN.{length, drop, set}
+use lib.ListN.{length}
 use Rattle.stored.specs.Numbers.{big_endian, spelled, AreBytes}
 
 ------------------------------------------------------------------------
