@@ -22,7 +22,8 @@ use table::Table;
 // The last tick at which an active period may end, and so the last at which any search does.
 pub const HORIZON: u32 = Table::HORIZON;
 
-// What a subsystem knows of itself: s, P(s), Q(s), B(s) and the number of its first failing task, 0 for none, which only its row tells.
+// What a subsystem knows of itself: s, P(s), Q(s), B(s) and the number of its first failing task, 0 for none as in the row's figure,
+// which only its row tells.
 #[derive(Clone, Copy)]
 pub struct Own {
     pub place: usize,

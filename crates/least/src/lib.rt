@@ -49,7 +49,8 @@ pub fn standing(constant: u32, spare: u64) -> u32
     reached.min(u64::from(REACH)) as u32
 }
 
-// Loads: each asks for its cost once in each of its periods. Load t has the period and the cost at place t.
+// Loads: each asks for its cost once in each of its periods. Load t has the period and the cost at place t:
+// two slices, since what loads ask for is defined over two lists of numbers.
 #[derive(Clone, Copy)]
 pub struct LoadList<'a> {
     pub periods: &'a [u32],

@@ -19,7 +19,8 @@ pub fn need_in(tasks: &LoadList, i: usize, constant: u64, x: u32) -> u64
     constant + tasks.demand_in(i, x)
 }
 
-// The first moment whose supply is at least a need; one tick past the deadline where it lies beyond that.
+// The first moment whose supply is at least a need; one tick past the deadline where it lies beyond that: a number that the search
+// compares like any other.
 pub fn moment_within(share: &Share, deadline: u32, need: u64) -> u32
     requires { (deadline < reach) × (1 ≤ need) }
     ensures { result ≡ min (moment_of share.now.period share.now.budget share.now.end need) (deadline + 1) }

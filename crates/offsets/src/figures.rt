@@ -26,7 +26,7 @@ pub const HEAD_COUNT: usize = 5;
 
 pub const ROW_COUNT: usize = 9;
 
-// An outcome as a number.
+// An outcome as a number: bindings/c/bay.h tells callers in C of it.
 fn outcome_number(outcome: Outcome) -> u32
     ensures { result ≡ outcome_number outcome }
 {

@@ -18,7 +18,7 @@ use table::Table;
 use table::slots::filled;
 
 // What the rows of all subsystems share: P(s), Q(s) + X(s), what that leaves free of P(s), and B(s), of each subsystem, and RC(l) of
-// each resource. Slots past the counts are 0.
+// each resource. Slots past the counts are 0. One array for each, since the definitions and the searches take each by itself.
 #[derive(Clone, Copy)]
 pub struct Common {
     pub periods: [u32; Table::MOST],

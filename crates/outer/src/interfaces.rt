@@ -1,5 +1,6 @@
 // Interfaces as lines of numbers, which go by reference: line s is P(s), Q(s), and X(s, l) for each resource l. Lines and
-// holding times past the counts may hold anything. The caller keeps each index within the table's limit.
+// holding times past the counts may hold anything. The caller keeps each index within the table's limit. Each quantity has a function
+// with the rules' name for it.
 ghost use Rattle.std.specs.Prelude.{◌≡◌, ◌<◌};
 ghost use Rattle.table.specs.Limits.{most};
 ghost use Rattle.outer.specs.Interfaces.{period_at, budget_at, held_at};

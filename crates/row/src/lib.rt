@@ -7,7 +7,8 @@ ghost use Rattle.row.specs.Row.{judged};
 
 use job::{Own, Worst};
 
-// How a row ends: with its response R within the period, or beyond it, or with none.
+// How a row ends: with its response R within the period, or beyond it, or with none. Three kinds, so no Option or Result; document 01
+// binds the form.
 #[derive(Clone, Copy)]
 pub enum Outcome {
     Fits(u32),
@@ -15,7 +16,7 @@ pub enum Outcome {
     None,
 }
 
-// The row of a subsystem: X, its first failing task (0 for none), B, L, jobs, the first job and the lowest resource (0 for
+// The row of a subsystem, in the figures of document 01, where 0 stands for none: X, its first failing task (0 for none), B, L, jobs, the first job and the lowest resource (0 for
 // none) that reach R, and the outcome, which holds R.
 #[derive(Clone, Copy)]
 pub struct Row {

@@ -48,7 +48,8 @@ pub struct Misread {
 // A read's answer: the file is a table, or why it is none.
 pub type ReadAnswer = Result<(), Misread>;
 
-// What a read gives: its answer, and the table, which is all zeros where the file is refused.
+// What a read gives: its answer, and the table, which is all zeros where the file is refused. Document 01 asks for the table then, too,
+// so it stands beside the answer and not in it.
 #[derive(Clone, Copy)]
 pub struct Reading {
     pub answer: ReadAnswer,

@@ -1,5 +1,7 @@
-// A table as a grid of numbers: a block for each subsystem, and in it a line for the subsystem itself, P, Q and n, and one for
-// each task, T, C, D and its accesses. Whoever computes is lent the grid or a block of it, and copies nothing. Assumes nothing.
+// A table as a grid of numbers, which the reader fills with no table between, and of which the laws of reading and judging speak
+// (docs/DECISIONS.md 15): a block for each subsystem, and in it a line for the subsystem itself, P, Q and n, and one for
+// each task, T, C, D and its accesses. Whoever computes is lent the grid or a block of it, and copies nothing. Each quantity has a
+// function with the rules' name for it; a const parameter for its place would say less. Assumes nothing.
 ghost use Rattle.std.specs.Prelude.{◌≡◌, ◌≤◌, ◌<◌};
 ghost use Rattle.table.specs.Limits.{most};
 ghost use Rattle.table.specs.Meaning.{meaning};
@@ -18,7 +20,8 @@ pub type Line = [u32; LINE];
 // A subsystem: its own line, and behind it one for each task.
 pub type Block = [Line; BLOCK];
 
-// A table: a block for each subsystem.
+// A table: a block for each subsystem. Of a lent grid the check knows how many blocks it has and not how long their lines are, though the
+// type has both: whoever writes into one asks for `HasBlocks` or `HasLines` and hands it on.
 pub type Grid = [Block; Table::MOST];
 
 // P.
