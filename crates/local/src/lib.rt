@@ -38,8 +38,8 @@ fn task_passes(part: &Part, end: u32, i: usize, blocked: u32, tasks: &LoadList) 
 }
 
 // The first failing task of a subsystem with m resources in use and their holding times, whose budget is given among a
-// period's first `end` ticks: 1 for the first task, 0 where every task passes, as the row's figure has it. Each task that passes joins those that the
-// next ones wait for.
+// period's first `end` ticks: 1 for the first task, 0 where every task passes, as the row's figure has it. Each task that
+// passes joins those that the next ones wait for.
 pub fn first_failing_task(part: &Part, held: &[u64; Table::MOST], end: u32) -> u8
     requires ready { Ready part.now.block.now part.now.m end }
     requires held_value { held.now ≡ padded (resource_holding (subsystem_in part.now.m part.now.block.now)) 0 most part.now.m }

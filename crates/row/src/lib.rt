@@ -16,8 +16,8 @@ pub enum Outcome {
     None,
 }
 
-// The row of a subsystem, in the figures of document 01, where 0 stands for none: X, its first failing task (0 for none), B, L, jobs, the first job and the lowest resource (0 for
-// none) that reach R, and the outcome, which holds R.
+// The row of a subsystem, in the figures of document 01, where 0 stands for none: X, its first failing task, B, L, jobs, the first job
+// and the lowest resource that reach R, and the outcome, which holds R.
 #[derive(Clone, Copy)]
 pub struct Row {
     pub holding: u32,
