@@ -35,6 +35,6 @@ pub fn raise_behind<F: Fn(usize) -> u32>(
     let mut longest: u32 = 0;
     for s in (ceiling..n - 1).rev() {
         longest = value(s + 1).max(longest);
-        slots[s] = slots[s].max(longest);
+        slots[s] = longest.max(slots[s]);
     }
 }

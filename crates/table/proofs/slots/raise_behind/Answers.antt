@@ -22,7 +22,7 @@ loop-s-preserved g c =
           let so-far = c.loop-s.invariant.1 f a is was in
           let longest : c.max-longest.result ≡ behind f c.args.n (c.loop-s.s - 1) =
           omega (arith, c.max-longest.ensures, here, so-far.0, behind_next f c.args.n (c.loop-s.s - 1) c.loop-s.s next within) in
-          (longest, raised_next f c.args.n a most (c.loop-s.s - 1) c.loop-s.s next within longest so-far.1 refl c.max.ensures),
+          (longest, raised_next f c.args.n a most (c.loop-s.s - 1) c.loop-s.s next within longest so-far.1 refl (omega (arith, c.max.ensures))),
     )
 
 pub returns : goal.returns
