@@ -1,5 +1,5 @@
 // A report's figures, written as numbers of four bytes one after another: each function is lent the buffer from the next
-// free byte on, puts its bytes at the start, leaves the rest, and says how many it put. Assumes nothing.
+// free byte on, puts its bytes at the start, leaves the rest, and says how many it put; room is asked of each call. Assumes nothing.
 ghost use Rattle.std.specs.Prelude.{◌≡◌, ◌*◌, ◌≤◌, length};
 ghost use mathlib.Core.List.{flat_map};
 ghost use Rattle.table.specs.Limits.{most};

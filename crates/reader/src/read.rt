@@ -1,6 +1,7 @@
 // The reader: the judge, the walk and the decoder at each field, in the order of the fields. At each field the part of
 // the file from the current offset on goes to the judge, and a refusal leaves early. What is read goes into a grid that the
-// caller lends, so that no table is copied. Assumes nothing.
+// caller lends, so that no table is copied. What is asked of counts and places is about a call and its file, and so stands with each
+// function and in no type. Assumes nothing.
 ghost use Rattle.std.specs.Prelude.{◌≡◌, [], ◌≤◌, length, get_or, Err, IsErr};
 ghost use Rattle.table.specs.Limits.{most};
 ghost use Rattle.table.specs.Grid.{HasLines, HasBlocks};

@@ -1,4 +1,4 @@
-// Step 12: a table is accepted when every task passes and every row fits.
+// Step 12: a table is accepted when every task passes and every row fits. The rows are the report's eight, of which the first n count.
 ghost use Rattle.std.specs.Prelude.{◌≡◌, ◌≤◌};
 ghost use Rattle.lists.specs.Range.{all_to};
 ghost use Rattle.table.specs.Limits.{most};

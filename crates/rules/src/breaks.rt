@@ -1,4 +1,5 @@
-// What is out of range or out of order, at one place. The counts are the caller's to have judged by rule 1.
+// What is out of range or out of order, at one place. The counts are the caller's to have judged by rule 1; these functions ask for an
+// index within the table's limits and no more, so they take no `Part`.
 ghost use Rattle.std.specs.Prelude.{◌≡◌, ◌||◌, ◌≤◌, ◌<◌, ltb};
 ghost use Rattle.lists.specs.Range.{largest_to};
 ghost use Rattle.table.specs.Limits.{most, largest};

@@ -1,5 +1,7 @@
 // The writers of the fields. Each is lent the free bytes from the next free one on, puts its bytes at their start, leaves
-// the rest as it was, and says how many it put. Assumes nothing.
+// the rest as it was, and says how many it put. Counts and room are asked of each call and not of a type: the free end grows shorter from
+// field to field. The loops over tasks and subsystems are three lines each; a generic one would have to be handed M beside each element.
+// Assumes nothing.
 ghost use mathlib.Core.List.{[], ◌∷◌, flat_map, ◌++◌};
 ghost use Rattle.std.specs.Prelude.{◌+◌, ◌*◌, ◌≤◌, ◌<◌, length};
 ghost use Rattle.lists.specs.Range.{up_to};
