@@ -111,9 +111,6 @@ module _ (n m : ℕ) (lines : List (List ℕ)) (sound : Sound (interfaces_in n m
   few_ceilings = omega (arith, ceilings_count, few_resources_of n m lines sound)
 
   module _ {a : List ℕ} (q : a ≡ padded (led (held_at lines s) (ceiling_at r) (length r)) 0 most (length r)) where
-    pub held_long : m ≤ length a
-    held_long = omega (arith, ceilings_count, long_enough _ _ few_ceilings q)
-
     module _ (f : ℕ) {period budget blocked : ℕ} (ep : period ≡ period_at lines s) (eq : budget ≡ budget_at lines s) (eb : blocked ≡ blocking (interfaces_in n m lines) s) where
       pub lent_sound : SoundView (seen_by p c (take m a) r (own_of s period budget blocked f))
       lent_sound =

@@ -109,10 +109,6 @@ pub both_true : (a b : Bool) → (a && b) ≡ true → (a ≡ true) × (b ≡ tr
 both_true true b e = (refl, e)
 both_true false b e = absurd (true≢false (sym e))
 
-pub all_to_zero : (p : ℕ → Bool) → all_to p 0 ≡ true
-unfolding all_to
-all_to_zero p = refl
-
 pub all_to_suc : (p : ℕ → Bool) (n : ℕ) → all_to p (n + 1) ≡ (all_to p n && p n)
 unfolding all_to
 all_to_suc p n = rw add-one refl

@@ -4,10 +4,10 @@ use native.Mathlib.Nat.{le_trans}
 use native.Mathlib.Omega.{arith}
 use mathlib.Core.Path.{◌≡◌, refl, ap, ap₂, ◌∙◌}
 use mathlib.Core.List.{List, []}
-use lib.ListN.{get_or, set}
-use Rattle.lists.specs.Range.{largest_to, up_to, padded}
+use lib.ListN.{get_or}
+use Rattle.lists.specs.Range.{largest_to, up_to}
 use Rattle.lists.proofs.Over.{largest_to_ext}
-use Rattle.lists.proofs.UpTo.{length_up_to, get_d_up_to, up_to_ext, padded_set}
+use Rattle.lists.proofs.UpTo.{length_up_to, get_d_up_to, up_to_ext}
 use Rattle.table.specs.Limits.{most, largest}
 use Rattle.outer.specs.Sound.{Sound}
 use Rattle.outer.specs.Interfaces.{InterfaceM, period_at, budget_at, held_at, interface_at, interfaces_in}
@@ -94,7 +94,3 @@ pub interfaces_are : (n m : ℕ) (lines : List (List ℕ)) (f : ℕ → Interfac
 unfolding interfaces_in
 interfaces_are n m lines f e =
     ap (λ (is : List InterfaceM). record { resources = m; interfaces = is }) (up_to_ext (interface_at m lines) f n e)
-
--- An array that is filled from the front: the next slot.
-pub filled_next : (f : ℕ → ℕ) (a : List ℕ) (n v : ℕ) → a ≡ padded f 0 most n → v ≡ f n → n < most → set a n v ≡ padded f 0 most (n + 1)
-filled_next f a n v e q h = ap₂ (λ (b : List ℕ) (w : ℕ). set b n w) e q ∙ padded_set f 0 most n h
