@@ -113,7 +113,7 @@ module _ (sys : System) (s k : ℕ) where
   some_end zero a = (_, budget_end_given a)
   some_end (suc l) a = (_, job_end_given (suc l) (omega arith) a)
 
-  -- Nothing exactly where it has none.
+  -- None exactly where it has none.
   pub nothing_exactly : (l : ℕ) → ((HasEnd sys s k l → ⊥) → job_end_of sys s k l ≡ None) × (job_end_of sys s k l ≡ None → HasEnd sys s k l → ⊥)
   nothing_exactly l = (λ n. unless n (job_end_of sys s k l) refl, λ q a. never (sym q ∙ (some_end l a).1))
     where

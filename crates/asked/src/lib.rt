@@ -62,7 +62,7 @@ fn end_in_grid(laid: &Laid, s: usize, k: u32, l: usize) -> Option<u32>
 }
 
 // The end of job k of subsystem s with resource l, in ticks from the start of the active period; subsystems and resources
-// count from 1, jobs from 0. l = 0 asks for the end of the job's budget. Nothing where the table is refused, s is no
+// count from 1, jobs from 0. l = 0 asks for the end of the job's budget. None where the table is refused, s is no
 // subsystem, its row has no active period, k is no job of it, l is no resource, or the subsystem never holds l.
 pub fn job_end(t: Table, s: u8, k: u32, l: u8) -> Option<u32>
     ensures { result ≡ job_end_of (meaning t) s k l }

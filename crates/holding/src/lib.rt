@@ -85,7 +85,7 @@ fn with_task(
     largest
 }
 
-// X(s, l) of each of m resources, and X(s), task by task.
+// X(s, l) of each resource in use, and X(s), task by task.
 pub fn held_by(part: &Part) -> Held
     ensures { IsHeld part.now.m (subsystem_in part.now.m part.now.block.now) result }
 {

@@ -1,4 +1,4 @@
-// The judge: rules 1 to 5 in their order on any table. `judge` and `judge_one` have no `requires`; the rest may take it
+// The judge: rules 1 to 5 in their order on any table. `judge`, `judge_one` and `judge_counts` have no `requires`; the rest may take it
 // for granted that rule 1 has passed, since no index is in range before.
 #![tactic(auto)]
 

@@ -37,7 +37,7 @@ fn task_passes(part: &Part, end: u32, i: usize, blocked: u32, tasks: &LoadList) 
     passing::held_within(tasks, i, constant, deadline(part.block, i), &share)
 }
 
-// The first failing task of a subsystem with m resources in use and their holding times, whose budget is given among a
+// The first failing task of a subsystem, from the holding times of the resources in use, whose budget is given among a
 // period's first `end` ticks: 1 for the first task, 0 where every task passes, as the row's figure has it. Each task that
 // passes joins those that the next ones wait for.
 pub fn first_failing_task(part: &Part, held: &[u64; Table::MOST], end: u32) -> u8

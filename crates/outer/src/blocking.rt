@@ -9,7 +9,7 @@ use crate::shown::Shown;
 use table::Table;
 use table::slots::raise_behind;
 
-// B(s) of each of n subsystems: the longest that a lower one holds a resource whose ceiling reaches s.
+// B(s) of each subsystem: the longest that a lower one holds a resource whose ceiling reaches s.
 pub(crate) fn blockings_of(shown: &Shown, ceilings: [usize; Table::MOST]) -> [u32; Table::MOST]
     requires { ceilings ≡ padded (ceiling_in shown.now.lines.now shown.now.n) 0 most shown.now.m }
     ensures { result ≡ padded (blocked_in shown.now.lines.now shown.now.n shown.now.m) 0 most shown.now.n }

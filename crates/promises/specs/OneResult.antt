@@ -6,7 +6,7 @@ use Rattle.least.specs.Share.{Fitting}
 use Rattle.least.specs.Search.{IsLeast}
 use Rattle.least.proofs.ShareLaws.{shares_longer}
 
--- There is one least solution only: the contract of `search::least_within` determines its result.
+-- There is one least solution only: the contract of `search::Asking::least_within` determines its result.
 pub one_least_solution : (f : ℕ → ℕ) (y z : ℕ) → IsLeast f y → IsLeast f z → y ≡ z
 one_least_solution f y z a b =
     ⊎_elim (λ (l : y ≤ z).
@@ -16,7 +16,7 @@ one_least_solution f y z a b =
     not_strict : (x : ℕ) → x < f x → x ≡ f x → ⊥
     not_strict x l e = omega arith
 
--- Nor do two numbers of loads both fit and leave no room for one more: the contract of `least::fitting` determines its result.
+-- Nor do two numbers of loads both fit and leave no room for one more: the contract of `least::LoadList::fitting` determines its result.
 pub one_number_fits : (periods costs : List ℕ) (n r q : ℕ) → Fitting periods costs n r → Fitting periods costs n q → r ≡ q
 one_number_fits periods costs n r q f g =
     ⊎_elim (λ (h : r ≤ q). ⊎_elim (λ (k : q ≤ r). omega arith) (λ (k : r < q). absurd (too_many r q k f g)) (le_or_lt q r))

@@ -1,4 +1,4 @@
-// Numbers as bytes, high byte first: one that is read out of a field's value, and one that is put into a buffer.
+// Numbers as bytes, high byte first: one that is read out of a field's value, and one or several that are put into a buffer.
 // Assumes nothing.
 ghost use mathlib.Core.List.{flat_map};
 ghost use Rattle.std.specs.Prelude.{◌≡◌, ◌+◌, ◌*◌, ◌≤◌, length};
