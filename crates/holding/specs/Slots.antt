@@ -1,6 +1,6 @@
 -- What the functions on one subsystem take for granted of its counts, so that no index leaves its array: what rule 1
 -- has judged. Assumes nothing.
-use Rattle.std.specs.Prelude.{ℕ, ◌≤◌, ◌<◌, List}
+use Rattle.std.specs.Prelude.{ℕ, ◌≤◌, List}
 use Rattle.table.specs.Grid.{count_in}
 use Rattle.table.specs.Limits.{most}
 
@@ -9,10 +9,3 @@ pub record Counted (block : List (List ℕ)) (m : ℕ) : Type 0 where
   pub some_task : 1 ≤ count_in block
   pub tasks_most : count_in block ≤ most
   pub resources_most : m ≤ most
-
--- The same, and a resource among the first m.
-pub record Slots (block : List (List ℕ)) (m l : ℕ) : Type 0 where
-  pub some_task : 1 ≤ count_in block
-  pub tasks_most : count_in block ≤ most
-  pub resources_most : m ≤ most
-  pub listed : l < m
