@@ -1,7 +1,7 @@
 -- What a foreign caller gets: the number that each function returns, and what the lent buffer holds at the end.
 -- Assumes nothing.
 use Rattle.std.specs.Prelude.{ℕ, cond, ltb, length, Option, unwrap_or, Ok, Err}
-use Rattle.core.specs.Result.{result_unwrap_or}
+use Rattle.std.specs.Result.{result_unwrap_or}
 use mathlib.Core.List.{List, flat_map}
 use Rattle.table.specs.Meaning.{System, meaning}
 use Rattle.stored.specs.Answers.{ReadAnswer, WriteAnswer}
