@@ -9,6 +9,7 @@ mod streams;
 ghost use Rattle.std.specs.Prelude.{◌≡◌, ◌≤◌, length};
 ghost use Rattle.table.specs.Grid.{HasBlocks};
 
+use lines::Pen;
 use printing::read_up_to;
 use std::io;
 use std::io::{Read, Write};
@@ -22,8 +23,13 @@ const NUMBER_AND_END: usize = 11;
 // A line: words, the number of the file, and the line's end.
 fn say<W: Write>(out: &mut W, words: &[u8], k: u32) -> io::Result<()> {
     let mut rest = [0u8; NUMBER_AND_END];
-    let digits = lines::put_number(&mut rest, 0, k);
-    let end = lines::put_byte(&mut rest, digits, b'\n');
+    let mut pen = Pen {
+        buf: &mut rest,
+        at: 0,
+    };
+    pen.put_number(k);
+    pen.put_byte(b'\n');
+    let end = pen.at;
     out.write_all(words)?;
     out.write_all(&rest[..end])
 }

@@ -1,12 +1,15 @@
 -- How a number is written: its one digit, its two, or its front and then its last two. Assumes nothing.
 use Prim.Native.Nat.{ℕ, ◌+◌, ◌/◌, ◌%◌, ◌≤◌, ◌<◌, ◌^◌}
 use native.Mathlib.Omega.{arith}
-use mathlib.Core.Path.{◌≡◌, refl, sym, ap, ◌∙◌}
+use mathlib.Core.Path.{◌≡◌, refl, sym, ap, ap₂, ◌∙◌}
 use mathlib.Core.List.{List, [], ◌∷◌, ◌++◌, append_assoc}
 use lib.ListN.{length, length-append}
 use Rattle.lines.specs.Written.{written}
+use Rattle.lines.specs.Puts.{Puts}
+use Rattle.lines.specs.declared.Pen.{Pen}
 use Rattle.lines.specs.Decimal.{digit_byte, pair, decimal}
-use Rattle.lines.proofs.WrittenLaws.{written_then}
+use Rattle.lines.proofs.WrittenLaws.{written_then, length_written}
+use Rattle.lines.proofs.PutsLaws.{HasRoom, puts_then, puts_same, puts_room}
 use Rattle.lines.proofs.DecimalLaws.{decimal_of_small, decimal_of_large}
 
 pub one_digit : (n : ℕ) → n < 10 → length (decimal n) ≡ 1
@@ -30,27 +33,54 @@ two_behind n h l =
 pub two_more_digits : (n : ℕ) → 100 ≤ n → n < 2 ^ 32 → length (decimal n) ≡ length (decimal (n / 100)) + 2
 two_more_digits n h l = ap length (two_behind n h l) ∙ simp length-append (omega arith)
 
-pub small_number :
-    (b : List ℕ) (at n d r : ℕ) (out : List ℕ) → n < 10 → d ≡ digit_byte n → r ≡ at + 1 → out ≡ written b at (d ∷ []) →
-    (r ≡ at + length (decimal n)) × (out ≡ written b at (decimal n))
-small_number b at n d r out h e f g =
-    (omega (arith, one_digit n h), g ∙ ap (written b at) (ap (λ (x : ℕ). x ∷ []) e ∙ sym (decimal_of_small n h)))
+-- A number of one digit.
+pub small_number : {p q : Pen} (n : ℕ) {d : ℕ} → n < 10 → d ≡ digit_byte n → Puts p (d ∷ []) q → Puts p (decimal n) q
+small_number n h e w = puts_same (ap (λ (x : ℕ). x ∷ []) e ∙ sym (decimal_of_small n h)) w
 
 -- Two digits, one after the other.
 pub pair_written :
-    (b : List ℕ) (at x d e last r : ℕ) (mid out : List ℕ) → at + 2 ≤ length b → d ≡ digit_byte (x / 10) → last ≡ at + 1 →
-    mid ≡ written b at (d ∷ []) → e ≡ digit_byte (x % 10) → r ≡ last + 1 → out ≡ written mid last (e ∷ []) →
-    (r ≡ at + 2) × (out ≡ written b at (pair x))
-pair_written b at x d e last r mid out room g f k h q o =
-    (omega arith, o ∙ rw (k, f, g, h) refl ∙ written_then b at (digit_byte (x / 10) ∷ []) (digit_byte (x % 10) ∷ []) (omega arith))
+    {p q r : Pen} (x : ℕ) {d e : ℕ} → HasRoom p 2 → d ≡ digit_byte (x / 10) → e ≡ digit_byte (x % 10) →
+    Puts p (d ∷ []) q → Puts q (e ∷ []) r → Puts p (pair x) r
+pair_written x room f g w v =
+    puts_same (ap₂ (λ (a : ℕ) (b : ℕ). a ∷ b ∷ []) f g) (puts_then (omega arith) w v)
 
+-- The front of a number, and its last two digits.
 pub large_number :
-    (b : List ℕ) (at n last r : ℕ) (mid out : List ℕ) → 100 ≤ n → n < 2 ^ 32 → at + length (decimal n) ≤ length b →
-    last ≡ at + length (decimal (n / 100)) → mid ≡ written b at (decimal (n / 100)) → r ≡ last + 2 →
-    out ≡ written mid last (pair (n % 100)) →
-    (r ≡ at + length (decimal n)) × (out ≡ written b at (decimal n))
-large_number b at n last r mid out h l room e f q o = (
-  omega (arith, two_more_digits n h l),
-  o ∙ rw (f, e) refl ∙ written_then b at (decimal (n / 100)) (pair (n % 100)) (omega (arith, two_more_digits n h l)) ∙
+    {p q r : Pen} (n : ℕ) → 100 ≤ n → n < 2 ^ 32 → HasRoom p (length (decimal n)) →
+    Puts p (decimal (n / 100)) q → Puts q (pair (n % 100)) r → Puts p (decimal n) r
+large_number n h l room w v =
+    puts_same (sym (two_behind n h l)) (puts_then (omega (arith, two_more_digits n h l)) w v)
+
+-- Behind its front there is room for those two.
+pub room_for_two :
+    {p q : Pen} (n : ℕ) → 100 ≤ n → n < 2 ^ 32 → HasRoom p (length (decimal n)) → Puts p (decimal (n / 100)) q → HasRoom q 2
+room_for_two n h l room w = puts_room 2 (omega (arith, two_more_digits n h l)) w
+
+------------------------------------------------------------------------
+-- By the buffer that is left, once the pen that wrote into it is let go
+
+-- A number that one pen wrote.
+pub number_by_pen :
+    {p q : Pen} {xs out : List ℕ} (n : ℕ) → decimal n ≡ xs → Puts p xs q → out ≡ q.buf.now →
+    (q.at ≡ p.at + length (decimal n)) × (out ≡ written p.buf.now p.at (decimal n))
+number_by_pen n d w e = rw d (w.place, e ∙ w.holds)
+
+-- A number whose front was written before, and its last two digits by a pen behind that.
+pub number_behind_front :
+    {p q : Pen} {out : List ℕ} (b : List ℕ) (at n : ℕ) → 100 ≤ n → n < 2 ^ 32 → at + length (decimal n) ≤ length b →
+    (p.at ≡ at + length (decimal (n / 100))) × (p.buf.now ≡ written b at (decimal (n / 100))) →
+    Puts p (pair (n % 100)) q → out ≡ q.buf.now →
+    (q.at ≡ at + length (decimal n)) × (out ≡ written b at (decimal n))
+number_behind_front {p} b at n h l room f w e = (
+  omega (arith, two_more_digits n h l, f.0, w.place),
+  e ∙ w.holds ∙ rw (f.1, f.0) refl ∙ written_then b at (decimal (n / 100)) (pair (n % 100)) (omega (arith, two_more_digits n h l)) ∙
       ap (written b at) (sym (two_behind n h l)),
 )
+
+-- There is room for those two.
+pub room_behind_front :
+    {mid : List ℕ} {front : ℕ} (b : List ℕ) (at n : ℕ) → 100 ≤ n → n < 2 ^ 32 → at + length (decimal n) ≤ length b →
+    (front ≡ at + length (decimal (n / 100))) × (mid ≡ written b at (decimal (n / 100))) → front + 2 ≤ length mid
+room_behind_front b at n h l room f =
+    let same = ap length f.1 ∙ length_written b at (decimal (n / 100)) (omega (arith, two_more_digits n h l)) in
+    omega (arith, two_more_digits n h l, f.0, same)

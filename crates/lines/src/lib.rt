@@ -1,75 +1,97 @@
-// Bytes, words and decimal numbers, written into a lent buffer one after another: each function takes the place of the
-// next free byte and gives the place after what it wrote. That there is room is the caller's to show. Every function here
-// is proved, and the crate assumes nothing.
+// Bytes, words and decimal numbers, written into a lent buffer one after another: a pen stands at the next free byte, and each of
+// its functions leaves it behind what was written. That there is room is the caller's to show. Every function here is proved,
+// and the crate assumes nothing.
 #![tactic(auto)]
 
 ghost use Rattle.std.specs.Prelude.{◌≡◌, [], ◌∷◌, ◌+◌, ◌≤◌, ◌<◌, length};
-ghost use Rattle.lines.specs.Written.{written};
 ghost use Rattle.lines.specs.Decimal.{decimal, digit_byte, pair};
+ghost use Rattle.lines.specs.Puts.{Puts};
+ghost use Rattle.lines.specs.Written.{written};
 
-// One byte.
-pub fn put_byte(buf: &mut [u8], at: usize, b: u8) -> usize
-    requires { at < length buf.old }
-    ensures { (result ≡ at + 1) × (buf.new ≡ written buf.old at (b ∷ [])) }
-{
-    buf[at] = b;
-    at + 1
+// A lent buffer, and the place of its next free byte. The functions are `inline`: a pen that is lent to a call lies in memory, and
+// its place would go there and back for each byte.
+#[derive(Drop)]
+pub struct Pen<'a> {
+    pub buf: &'a mut [u8],
+    pub at: usize,
 }
 
-// Several bytes, in their order.
-pub fn put_bytes(buf: &mut [u8], at: usize, bytes: &[u8]) -> usize
-    requires { at + length bytes.now ≤ length buf.old }
-    ensures { (result ≡ at + length bytes.now) × (buf.new ≡ written buf.old at bytes.now) }
-{
-    let end = at + bytes.len();
-    buf[at..end].copy_from_slice(bytes);
-    end
-}
-
-// A number, in decimal, without leading zeros. Most numbers have one digit; those are written here and need no call of a
-// recursive function.
-pub fn put_number(buf: &mut [u8], at: usize, n: u32) -> usize
-    requires { at + length (decimal n) ≤ length buf.old }
-    ensures { (result ≡ at + length (decimal n)) × (buf.new ≡ written buf.old at (decimal n)) }
-{
-    if n < 10 {
-        return put_byte(buf, at, digit(n));
+impl<'a> Pen<'a> {
+    // One byte.
+    #[inline]
+    pub fn put_byte(&mut self, b: u8)
+        requires { self.old.at < length self.old.buf.now }
+        ensures { Puts self.old (b ∷ []) self.new }
+    {
+        self.buf[self.at] = b;
+        self.at += 1;
     }
-    put_digits(buf, at, n)
-}
 
-// Two digits, of which the first may be 0.
-fn put_pair(buf: &mut [u8], at: usize, x: u32) -> usize
-    requires { (x < 100) × (at + 2 ≤ length buf.old) }
-    ensures { (result ≡ at + 2) × (buf.new ≡ written buf.old at (pair x)) }
-{
-    let last = put_byte(buf, at, digit(x / 10));
-    put_byte(buf, last, digit(x % 10))
-}
+    // Several bytes, in their order.
+    #[inline]
+    pub fn put_bytes(&mut self, bytes: &[u8])
+        requires { self.old.at + length bytes.now ≤ length self.old.buf.now }
+        ensures { Puts self.old bytes.now self.new }
+    {
+        let end = self.at + bytes.len();
+        self.buf[self.at..end].copy_from_slice(bytes);
+        self.at = end;
+    }
 
-// A number of three digits: the first, then the two behind it.
-fn put_three(buf: &mut [u8], at: usize, x: u32) -> usize
-    requires { (100 ≤ x) × (x < 1000) × (at + length (decimal x) ≤ length buf.old) }
-    ensures { (result ≡ at + length (decimal x)) × (buf.new ≡ written buf.old at (decimal x)) }
-{
-    let last = put_byte(buf, at, digit(x / 100));
-    put_pair(buf, last, x % 100)
+    // A number, in decimal, without leading zeros. Most numbers have one digit; those are written here and need no call of a
+    // recursive function.
+    #[inline]
+    pub fn put_number(&mut self, n: u32)
+        requires { self.old.at + length (decimal n) ≤ length self.old.buf.now }
+        ensures { Puts self.old (decimal n) self.new }
+    {
+        if n < 10 {
+            return self.put_byte(digit(n));
+        }
+        self.at = put_digits(&mut *self.buf, self.at, n);
+    }
+
+    // Two digits, of which the first may be 0.
+    #[inline]
+    fn put_pair(&mut self, x: u32)
+        requires { (x < 100) × (self.old.at + 2 ≤ length self.old.buf.now) }
+        ensures { Puts self.old (pair x) self.new }
+    {
+        self.put_byte(digit(x / 10));
+        self.put_byte(digit(x % 10));
+    }
+
+    // A number of three digits: the first, then the two behind it.
+    #[inline]
+    fn put_three(&mut self, x: u32)
+        requires { (100 ≤ x) × (x < 1000) × (self.old.at + length (decimal x) ≤ length self.old.buf.now) }
+        ensures { Puts self.old (decimal x) self.new }
+    {
+        self.put_byte(digit(x / 100));
+        self.put_pair(x % 100);
+    }
 }
 
 // A number of two digits or more: the digits before the last two, then those. Up to three digits need no call of its own.
-// By recursion and not by a loop: the front comes first, and two digits a step take half as many divisions as one.
+// By recursion and not by a loop: the front comes first, and two digits a step take half as many divisions as one. It takes the
+// buffer and the place and no pen, since it is the one call that stays: so pens stay in registers.
 fn put_digits(buf: &mut [u8], at: usize, x: u32) -> usize
     requires { (10 ≤ x) × (at + length (decimal x) ≤ length buf.old) }
     ensures { (result ≡ at + length (decimal x)) × (buf.new ≡ written buf.old at (decimal x)) }
 {
+    if 1000 <= x {
+        let front = put_digits(buf, at, x / 100);
+        let mut pen = Pen { buf, at: front };
+        pen.put_pair(x % 100);
+        return pen.at;
+    }
+    let mut pen = Pen { buf, at };
     if x < 100 {
-        return put_pair(buf, at, x);
+        pen.put_pair(x);
+        return pen.at;
     }
-    if x < 1000 {
-        return put_three(buf, at, x);
-    }
-    let last = put_digits(buf, at, x / 100);
-    put_pair(buf, last, x % 100)
+    pen.put_three(x);
+    pen.at
 }
 
 // The byte of a digit.

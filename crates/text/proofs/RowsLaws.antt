@@ -5,15 +5,17 @@ use mathlib.Core.Path.{◌≡◌, sym}
 use mathlib.Core.List.{List}
 use lib.ListN.{length, get_or}
 use Rattle.lists.specs.Range.{join_to}
+use Rattle.lines.specs.Puts.{Puts}
+use Rattle.lines.specs.declared.Pen.{Pen}
+use Rattle.lines.proofs.PutsLaws.{HasRoom, puts_same, puts_nothing}
 use Rattle.lists.proofs.UpTo.{join_to_zero, join_to_suc, join_to_at_most}
 use Rattle.table.specs.Limits.{most}
 use Rattle.row.specs.declared.Row.{Row}
 use Rattle.report.specs.Report.{past_rows}
-use Rattle.wording.specs.Wrote.{Wrote}
 use Rattle.wording.specs.Lines.{row_line}
 use Rattle.text.specs.Text.{slot_line}
 use Rattle.wording.specs.Room.{line_most}
-use Rattle.wording.proofs.WroteLaws.{Run, wrote_same, wrote_nothing, run_on, run_room, run_length}
+use Rattle.wording.proofs.WroteLaws.{Run, run_on, run_room, run_length}
 use Rattle.wording.proofs.LineLaws.{row_line_most}
 
 module _ (rows : List Row) where
@@ -24,32 +26,32 @@ module _ (rows : List Row) where
   pub lines_most : (n : ℕ) → length (join_to (slot_line rows) n) ≤ n * line_most
   lines_most n = join_to_at_most (slot_line rows) n line_most (λ s h. slot_line_most s)
 
-  module _ (b : List ℕ) (at : ℕ) where
-    -- The lines of the first s rows were written.
-    pub RowsTo : ℕ → List ℕ → ℕ → Type 0
-    RowsTo s out next = Run b at (s * line_most) (join_to (slot_line rows) s) out next
+  module _ (p : Pen) where
+    -- The lines of the first s rows were put.
+    pub RowsTo : ℕ → Pen → Type 0
+    RowsTo s q = Run p (s * line_most) (join_to (slot_line rows) s) q
 
-    pub rows_begin : RowsTo 0 b at
+    pub rows_begin : RowsTo 0 p
     unfolding RowsTo
-    rows_begin = record { writes = wrote_same (sym (join_to_zero (slot_line rows))) (wrote_nothing b at); small = lines_most 0 }
+    rows_begin = record { writes = puts_same (sym (join_to_zero (slot_line rows))) (puts_nothing p); small = lines_most 0 }
 
-    module _ (s next : ℕ) (mid : List ℕ) (room : at + most * line_most ≤ length b) (h : s < most) (so_far : RowsTo s mid next) where
-      pub room_for_row : next + line_most ≤ length mid
+    module _ (s : ℕ) (q : Pen) (room : HasRoom p (most * line_most)) (h : s < most) (so_far : RowsTo s q) where
+      pub room_for_row : HasRoom q line_most
       unfolding RowsTo
       room_for_row = run_room line_most (omega arith) so_far
 
-      pub rows_go_on : (out : List ℕ) (next' : ℕ) → Wrote mid next (row_line s (get_or rows s past_rows)) out next' → RowsTo (s + 1) out next'
+      pub rows_go_on : (r : Pen) → Puts q (row_line s (get_or rows s past_rows)) r → RowsTo (s + 1) r
       unfolding RowsTo slot_line
-      rows_go_on out next' w =
+      rows_go_on r w =
           record {
-            writes = wrote_same (sym (join_to_suc (slot_line rows) s)) (run_on (omega arith) so_far (slot_line_most s) w).writes;
+            writes = puts_same (sym (join_to_suc (slot_line rows) s)) (run_on (omega arith) so_far (slot_line_most s) w).writes;
             small = lines_most (s + 1);
           }
 
-    pub rows_end : (n s next : ℕ) (out : List ℕ) → s ≤ n → n ≤ s → RowsTo s out next → Wrote b at (join_to (slot_line rows) n) out next
+    pub rows_end : (n s : ℕ) (q : Pen) → s ≤ n → n ≤ s → RowsTo s q → Puts p (join_to (slot_line rows) n) q
     unfolding RowsTo
-    rows_end n s next out h g w = let e : s ≡ n = omega arith in rw e at w.writes
+    rows_end n s q h g w = let e : s ≡ n = omega arith in rw e at w.writes
 
-    pub rows_length : (s next : ℕ) (out : List ℕ) → at + most * line_most ≤ length b → s ≤ most → RowsTo s out next → length out ≡ length b
+    pub rows_length : (s : ℕ) (q : Pen) → HasRoom p (most * line_most) → s ≤ most → RowsTo s q → length q.buf.now ≡ length p.buf.now
     unfolding RowsTo
-    rows_length s next out room h w = run_length (omega arith) w
+    rows_length s q room h w = run_length (omega arith) w

@@ -22,10 +22,13 @@ use Rattle.reader.specs.declared.Head.{Head}
 use Rattle.stored.specs.declared.FileRefusal.{FileRefusal}
 use Rattle.stored.specs.Read.{file_refusal, read_of}
 use Rattle.reader.specs.Reader.{answer_by, IsHead}
+use Rattle.lines.specs.Puts.{Puts}
+use Rattle.lines.specs.declared.Pen.{Pen}
 use Rattle.wording.specs.Lines.{refused_file}
 use Rattle.wording.specs.Room.{text_room}
 use Rattle.text.specs.Text.{report_text, table_text, read_text, text_of, printed_of, left_by, buffer_after, IsPrinted}
 use Rattle.wording.specs.Wrote.{Wrote}
+use Rattle.wording.proofs.WroteLaws.{wrote}
 
 ------------------------------------------------------------------------
 -- A table
@@ -86,3 +89,10 @@ module _ (file buf : List ℕ) where
       let n : r ≡ length (text_of file) = omega (arith, w.place) in
       let e : Some r ≡ printed_of file (length buf) = rw (le-ltb (length buf) text_room h) (ap Some n) in
       record { answered = e; left = w.holds ∙ ap (λ (p : Option ℕ). left_by p (text_of file) buf) e }
+
+-- The same where a pen put the text, for the buffer that is left once the pen is let go.
+pub text_printed_by :
+    (file : List ℕ) {p q : Pen} {out : List ℕ} → text_room ≤ length p.buf.now → p.at ≡ 0 → Puts p (text_of file) q → out ≡ q.buf.now →
+    IsPrinted file p.buf.now out (Some q.at)
+text_printed_by file {p} {q} {out} room start w e =
+    rw e (text_printed file p.buf.now room q.buf.now q.at (rw start at (wrote w)))

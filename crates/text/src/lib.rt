@@ -4,15 +4,15 @@
 
 ghost use Rattle.std.specs.Prelude.{◌≡◌, ◌+◌, ◌*◌, ◌≤◌, length};
 ghost use Rattle.lists.specs.Range.{join_to};
+ghost use Rattle.lines.specs.Puts.{Puts};
 ghost use Rattle.table.specs.Limits.{most};
 ghost use Rattle.table.specs.Grid.{system_in, HasBlocks};
 ghost use Rattle.rules.specs.Judged.{admitted};
 ghost use Rattle.wording.specs.Lines.{verdict};
 ghost use Rattle.wording.specs.Room.{line_most, text_room};
 ghost use Rattle.text.specs.Text.{slot_line, report_text, table_text, text_of, IsPrinted};
-ghost use Rattle.wording.specs.Wrote.{Wrote};
 
-use lines::put_bytes;
+use lines::Pen;
 use report::{Laid, Report};
 use row::Row;
 use table::Table;
@@ -23,67 +23,65 @@ use wording::{put_refused_file, put_refused_table, put_row};
 pub const ROOM: usize = 2048;
 
 // The first line of an admitted table.
-fn put_verdict(buf: &mut [u8], accepted: bool) -> usize
-    requires { 9 ≤ length buf.old }
-    ensures { Wrote buf.old 0 (verdict accepted) buf.new result }
+fn put_verdict(pen: &mut Pen, accepted: bool)
+    requires { pen.old.at + 9 ≤ length pen.old.buf.now }
+    ensures { Puts pen.old (verdict accepted) pen.new }
 {
     if accepted {
-        put_bytes(buf, 0, b"accepted\n")
+        pen.put_bytes(b"accepted\n");
     } else {
-        put_bytes(buf, 0, b"rejected\n")
+        pen.put_bytes(b"rejected\n");
     }
 }
 
 // The lines of the first n rows.
-fn put_rows(buf: &mut [u8], at: usize, rows: [Row; Table::MOST], n: usize) -> usize
-    requires { (n ≤ most) × (at + most * line_most ≤ length buf.old) }
-    ensures { Wrote buf.old at (join_to (slot_line rows) n) buf.new result }
+fn put_rows(pen: &mut Pen, rows: [Row; Table::MOST], n: usize)
+    requires { (n ≤ most) × (pen.old.at + most * line_most ≤ length pen.old.buf.now) }
+    ensures { Puts pen.old (join_to (slot_line rows) n) pen.new }
 {
-    let mut next = at;
     for (s, row) in rows[..n].iter().enumerate() {
-        next = put_row(buf, next, s, *row);
+        put_row(pen, s, *row);
     }
-    next
 }
 
 // The text of a report on n subsystems.
-fn put_report(buf: &mut [u8], report: Report, n: usize) -> usize
+fn put_report(pen: &mut Pen, report: Report, n: usize)
     requires n_le_most { report.judged ≡ admitted → n ≤ most }
-    requires text_room_in_bounds { text_room ≤ length buf.old }
-    ensures { Wrote buf.old 0 (report_text report n) buf.new result }
+    requires text_room_in_bounds { pen.old.at + text_room ≤ length pen.old.buf.now }
+    ensures { Puts pen.old (report_text report n) pen.new }
 {
     if let Err(broken) = report.judged {
-        return put_refused_table(buf, 0, broken);
+        return put_refused_table(pen, broken);
     }
-    let at = put_verdict(buf, report.accepted);
-    put_rows(buf, at, report.rows, n)
+    put_verdict(pen, report.accepted);
+    put_rows(pen, report.rows, n);
 }
 
 // The text of a table that is laid out in a grid, whose counts rule 1 has passed.
-fn put_table(buf: &mut [u8], laid: &Laid) -> usize
-    requires { text_room ≤ length buf.old }
-    ensures { Wrote buf.old 0 (table_text (system_in laid.now.n laid.now.m laid.now.grid.now)) buf.new result }
+fn put_table(pen: &mut Pen, laid: &Laid)
+    requires { pen.old.at + text_room ≤ length pen.old.buf.now }
+    ensures { Puts pen.old (table_text (system_in laid.now.n laid.now.m laid.now.grid.now)) pen.new }
 {
     let report = report::report_of(laid);
-    put_report(buf, report, laid.n)
+    put_report(pen, report, laid.n);
 }
 
 // The text of a file, which is read into the grid.
-fn put_text(file: &[u8], grid: &mut Grid, buf: &mut [u8]) -> usize
+fn put_text(pen: &mut Pen, file: &[u8], grid: &mut Grid)
     requires has_blocks { HasBlocks grid.old }
-    requires text_room_in_bounds { text_room ≤ length buf.old }
-    ensures wrote { Wrote buf.old 0 (text_of file.now) buf.new result }
+    requires text_room_in_bounds { pen.old.at + text_room ≤ length pen.old.buf.now }
+    ensures wrote { Puts pen.old (text_of file.now) pen.new }
     ensures has_blocks_2 { HasBlocks grid.new }
 {
     match reader::read_grid(file, grid) {
-        Err(misread) => put_refused_file(buf, 0, stored::file_refusal(Err(misread))),
+        Err(misread) => put_refused_file(pen, stored::file_refusal(Err(misread))),
         Ok(head) => {
             let laid = Laid {
                 grid,
                 n: usize::from(head.count),
                 m: usize::from(head.resources),
             };
-            put_table(buf, &laid)
+            put_table(pen, &laid);
         }
     }
 }
@@ -98,7 +96,9 @@ pub fn check_text_in(file: &[u8], grid: &mut Grid, buf: &mut [u8]) -> Option<usi
     if buf.len() < ROOM {
         return None;
     }
-    Some(put_text(file, grid, buf))
+    let mut pen = Pen { buf, at: 0 };
+    put_text(&mut pen, file, grid);
+    Some(pen.at)
 }
 
 // The text of any file, left at the start of the buffer: the refusal of the file, the refusal of its table, or the verdict

@@ -1,5 +1,5 @@
-// The lines that `check` prints, each put into a lent buffer behind what it holds: of a row, and of a refusal. Every function here is
-// proved, and the crate assumes nothing.
+// The lines that `check` prints, each put by a pen into a lent buffer behind what it holds: of a row, and of a refusal. Every
+// function here is proved, and the crate assumes nothing.
 #![tactic(auto)]
 
 mod line;

@@ -1,6 +1,9 @@
--- `text::check_text_in` meets its contract. Assumes nothing.
+-- `text::check_text_in` meets its contract: once the pen is let go, the buffer is as the pen left it, since the pen kept to it.
+-- Assumes nothing.
 use native.Mathlib.Omega.{arith}
-use Rattle.text.proofs.TextLaws.{nothing_printed, text_printed}
+use mathlib.Core.Path.{refl, sym}
+use borrow.Author.Rules.{rules}
+use Rattle.text.proofs.TextLaws.{nothing_printed, text_printed_by}
 use Rattle.text.proofs.check_text_in.Goals as goal
 
 pub returns-then-buf-lt-ROOM : goal.returns-then-buf-lt-ROOM
@@ -9,4 +12,8 @@ returns-then-buf-lt-ROOM c =
 
 pub returns : goal.returns
 returns c =
-    record { printed = text_printed c.args.file.now c.args.buf.now (omega arith) _ _ c.put_text.ensures.wrote; has_blocks = c.put_text.ensures.has_blocks_2 }
+    let same = sym c.put_text.ensures.wrote.same_buffer in
+    record {
+      printed = text_printed_by c.args.file.now (omega arith) refl c.put_text.ensures.wrote (search (rules, same));
+      has_blocks = c.put_text.ensures.has_blocks_2;
+    }

@@ -3,4 +3,4 @@ use Rattle.text.proofs.RowsLaws.{RowsTo}
 use Rattle.text.proofs.put_rows.Given as goal
 
 abbrev pub invariant-loop-s : goal.invariant-loop-s
-invariant-loop-s l = RowsTo l.fn.rows l.initial.buf l.at l.s l.buf l.next
+invariant-loop-s l = RowsTo l.fn.rows l.fn.pen l.s l.pen

@@ -1,5 +1,5 @@
 -- `text::put_table` meets its contract. Assumes nothing.
-use Rattle.wording.proofs.WroteLaws.{wrote_same}
+use Rattle.lines.proofs.PutsLaws.{puts_same}
 use Rattle.text.proofs.TextLaws.{count_if_admitted, text_of_grid}
 use Rattle.text.proofs.put_table.Goals as goal
 
@@ -11,4 +11,4 @@ put_report-requires c =
 pub returns : goal.returns
 returns c =
     let laid = c.args.laid.now in
-    wrote_same (text_of_grid laid.n laid.m laid.grid.now _ c.report_of-report.ensures) c.put_report.ensures
+    puts_same (text_of_grid laid.n laid.m laid.grid.now _ c.report_of-report.ensures) c.put_report.ensures

@@ -1,8 +1,8 @@
--- `lines::put_number` meets its contract: one digit is written here, by the law that the recursive function's one digit has.
+-- `lines::Pen::put_number` meets its contract: one digit is written here, by the law that the recursive function's one digit has.
 -- Assumes nothing.
 use Rattle.lines.proofs.NumberLaws.{one_digit, small_number}
 use native.Mathlib.Omega.{arith}
-use Rattle.lines.proofs.put_number.Goals as goal
+use Rattle.lines.proofs.Pen.put_number.Goals as goal
 
 pub put_byte-requires : goal.put_byte-requires
 put_byte-requires c =
@@ -10,4 +10,4 @@ put_byte-requires c =
 
 pub returns-then-n-lt10 : goal.returns-then-n-lt10
 returns-then-n-lt10 c =
-    small_number c.args.buf.now c.args.at c.args.n _ _ _ (omega arith) c.digit.ensures c.put_byte.ensures.0 c.put_byte.ensures.1
+    small_number c.args.n (omega arith) c.digit.ensures c.put_byte.ensures
