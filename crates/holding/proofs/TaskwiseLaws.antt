@@ -128,6 +128,10 @@ module _ (block : List (List ℕ)) (m i : ℕ) where
   pub up_to_same : (l : ℕ) {each above : List ℕ} {largest : ℕ} {each' above' : List ℕ} {largest' : ℕ} → each' ≡ each → above' ≡ above → largest' ≡ largest → HeldUpTo block m i l each above largest → HeldUpTo block m i l each' above' largest'
   up_to_same l e a b s = rw (e, a, b) s
 
+  -- The same at another resource of the same index.
+  pub up_to_at : {l l' : ℕ} {each above : List ℕ} {largest : ℕ} → l ≡ l' → HeldUpTo block m i l each above largest → HeldUpTo block m i l' each above largest
+  up_to_at e s = rw (← e) s
+
   -- All resources of a task: it is joined.
   pub up_to_next : (each above : List ℕ) (largest l : ℕ) → m ≤ l → HeldUpTo block m i l each above largest → HeldUpTo block m (i + 1) 0 each above largest
   up_to_next each above largest l q s =

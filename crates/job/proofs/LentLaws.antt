@@ -34,6 +34,9 @@ module _ (n m : ℕ) (lines : List (List ℕ)) (c : Common) (sound : Sound (inte
   pub frees_long : n ≤ length c.frees
   frees_long = long_enough _ _ (few_of n m lines sound) (shared_frees n m lines c e)
 
+  pub ceilings_long : m ≤ length c.ceilings
+  ceilings_long = long_enough _ _ (few_resources_of n m lines sound) (shared_ceilings n m lines c e)
+
   pub ceilings_used : take m c.ceilings ≡ up_to (outer_ceiling (interfaces_in n m lines)) m
   ceilings_used = used_part _ _ (few_resources_of n m lines sound) (shared_ceilings n m lines c e)
 

@@ -1,9 +1,10 @@
 -- Laws of the judgement in one pass: to look at one more place is to take the earlier of two judgements. Assumes nothing.
-use Prim.Native.Nat.{ℕ, ◌+◌, ◌<◌}
+use Prim.Native.Nat.{ℕ, ◌+◌, ◌≤◌, ◌<◌}
 use native.Mathlib.Numerals.{add-one}
 use mathlib.Core.Path.{◌≡◌, refl, sym, ap, ◌∙◌}
 use mathlib.Core.Bool.{Bool, true, false, cond, true≢false}
 use mathlib.Core.Option.{Option, none, some, map}
+use borrow.Author.Tests.{lt-ltb, le-ltb}
 use lib.Dec.{eqb}
 use Rattle.lists.specs.Range.{or_else, such, first_of, first_such}
 use Rattle.lists.proofs.First.{first_of_more}
@@ -87,6 +88,14 @@ as_it_was found (Err r) e = absurd (true≢false e)
 module _ (found next : Judged) (k : Rule) (p : Place) (e : next ≡ refused k p) where
   pub after_none : found ≡ admitted → refused k p ≡ earlier found next
   after_none f = rw (e, f) refl
+
+  -- Of two refusals the one by the lower rule stands, and the one that was found first where neither is lower.
+  module _ (j : Rule) (q : Place) (f : found ≡ refused j q) (a b : ℕ) (g : a ≡ number_of k) (h : b ≡ number_of j) where
+    pub by_lower : a < b → refused k p ≡ earlier found next
+    by_lower l = rw (e, f, lt-ltb (number_of k) (number_of j) (rw (← g, ← h) l)) refl
+
+    pub by_no_lower : b ≤ a → refused j q ≡ earlier found next
+    by_no_lower l = rw (e, f, le-ltb (number_of k) (number_of j) (rw (← g, ← h) l)) refl
 
 ------------------------------------------------------------------------
 -- One place

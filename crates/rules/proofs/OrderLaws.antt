@@ -36,6 +36,10 @@ refused_names k k' p p' e =
     let same : ◌≡◌ {A = Broken} (record { rule = k; place = p }) (record { rule = k'; place = p' }) = cc in
     (ap (λ (r : Broken). r.rule) same, ap (λ (r : Broken). r.place) same)
 
+-- A refusal does not admit.
+pub refused_not_admitted : (k : Rule) (p : Place) → refused k p ≡ admitted → ⊥
+refused_not_admitted k p e = let z : ◌≡◌ {A = ℕ} 0 1 = cc in absurd (omega arith)
+
 -- A refusal stands.
 pub refusal_stands : (j x next : Judged) (k : Rule) (p : Place) → j ≡ x → j ≡ refused k p → j ≡ unless_refused x next
 refusal_stands j x next k p e r = r ∙ ap (λ (y : Judged). unless_refused y next) (sym r ∙ e)

@@ -1,17 +1,18 @@
 -- Laws of a load that has fallen behind: how often it must ask again to be ahead, and that a load without a free tick never is.
 -- Assumes nothing.
 use Prim.Native.Nat.{ℕ, ◌+◌, ◌-◌, ◌*◌, ◌^◌, ◌≤◌, ◌<◌}
-use native.Mathlib.Nat.{mul-add, mul-le-mul_right}
+use native.Mathlib.Nat.{mul-add, mul-le-mul_right, mul-le-mul, lt_of_le_of_lt}
 use native.Mathlib.Omega.{arith}
 use mathlib.Core.Path.{◌≡◌, refl, sym, ap, ap₂, ◌∙◌}
 use mathlib.Core.Logic.{⊎_elim}
 use mathlib.Core.List.{List}
+use lib.Dec.{lit<}
 use lib.ListN.{get_or, set, length-set}
 use Rattle.lists.proofs.Over.{le_or_lt}
 use Rattle.least.specs.Up.{up}
 use Rattle.least.specs.Search.{reach}
 use Rattle.search.specs.After.{Ahead, Behind, CaughtUp}
-use Rattle.least.proofs.Up.{up_holds, up_is_tight, up_is_least}
+use Rattle.least.proofs.Up.{up_holds, up_is_tight, up_is_least, up_at_most}
 
 module _ (ends : List ℕ) (t x period cost free bound : ℕ) (b : Behind (get_or ends t 0) x period cost free bound) where
   abbrev end : ℕ
@@ -72,6 +73,14 @@ module _ (ends : List ℕ) (t x period cost free bound : ℕ) (b : Behind (get_o
     pub bound_small : bound < x + times * cost → bound < reach
     bound_small h =
         ⊎_elim (λ (u : bound < reach). u) (λ u. omega (arith, least_asked u.0 u.1, u.2)) b.within
+
+    -- Products fit.
+    times_small : times < 2 ^ 25
+    times_small = omega (arith, b.small, up_at_most (x - end) free some)
+
+    pub costs_small : times * cost < 2 ^ 45
+    costs_small =
+        lt_of_le_of_lt (mul-le-mul {n₂ = 33554431} {m₂ = 1048575} (omega (arith, times_small)) (omega (arith, b.parts, b.period_small))) (lit< {m = 33554431 * 1048575} {n = 2 ^ 45} tt)
 
     pub ends_small : x + times * cost < reach → end + times * period < 2 ^ 32
     ends_small h =

@@ -14,6 +14,10 @@ pub record Passed (ends : List ℕ) (before x t : ℕ) : Type 0 where
   pub unless_grown : x ≡ before → Quiet ends x 0 t
 
 module _ (ends : List ℕ) (before x : ℕ) where
+  -- No load is passed yet.
+  pub pass_begins : before ≤ x → Passed ends before x 0
+  pass_begins h = record { grown = h; unless_grown = λ _ j a b. absurd (omega arith) }
+
   -- A load that is ahead is passed.
   pub passes : (t : ℕ) → Passed ends before x t → x ≤ get_or ends t 0 → Passed ends before x (t + 1)
   passes t p ahead =

@@ -1,24 +1,35 @@
 -- Laws of the judge of a field: what it says in each case, what a sound field is, and that range is judged last.
 -- Assumes nothing.
-use Prim.Native.Nat.{ℕ, ◌≤◌}
+use Prim.Native.Nat.{ℕ, ◌+◌, ◌*◌, ◌≤◌, ◌<◌}
 use native.Mathlib.Omega.{arith}
-use borrow.Author.Tests.{le-ltb, eq-eqb, ne_eqb, ltb-false, eqb-true, not-false}
+use borrow.Author.Tests.{lt-ltb, le-ltb, eq-eqb, ne_eqb, ltb-false, eqb-true, not-false}
 use mathlib.Core.Path.{◌≡◌, refl, sym, ap, ◌∙◌}
 use mathlib.Core.Bool.{Bool, true, false, not}
 use mathlib.Core.List.{List}
 use lib.Dec.{ltb, eqb}
-use lib.ListN.{length, length-take, length-drop}
+use lib.ListN.{length, get_or, length-take, length-drop}
+use lib.Seq.{drop-cons}
 use Rattle.std.specs.Prelude.{Ok, Err}
 use Rattle.stored.specs.declared.Fault.{Fault}
 use Rattle.stored.specs.declared.Fault.TheVariants.{Short, OtherTag, OtherLength, OutOfRange}
 use Rattle.stored.specs.Answers.{FieldAnswer}
+use Rattle.stored.specs.Numbers.{spelled}
 use Rattle.stored.specs.Field.{start_size, field_size, tag_of, stated_length, value_of}
 use Rattle.stored.specs.Judge.{refuse_if, judge_field, any_value}
+
+-- The stated length is spelled by the second and the third byte.
+pub stated_of_bytes : (rest : List ℕ) → start_size ≤ length rest → stated_length rest ≡ get_or rest 1 0 * 256 + get_or rest 2 0
+unfolding stated_length spelled
+stated_of_bytes rest h = rw (drop-cons rest 1 0 (omega arith), drop-cons rest 2 0 (omega arith)) (omega arith)
 
 ------------------------------------------------------------------------
 -- What the judge says, case by case
 
 module _ (tag due : ℕ) (in_range : List ℕ → Bool) (rest : List ℕ) where
+  pub judges_no_start : length rest < start_size → judge_field tag due in_range rest ≡ Err Short
+  unfolding judge_field
+  judges_no_start short = rw (lt-ltb (length rest) start_size short) refl
+
   module _ (started : start_size ≤ length rest) where
     pub judges_other_tag : (tag_of rest ≡ tag → ⊥) → judge_field tag due in_range rest ≡ Err OtherTag
     unfolding judge_field
@@ -36,6 +47,17 @@ module _ (tag due : ℕ) (in_range : List ℕ → Bool) (rest : List ℕ) where
           refl
 
       module _ (measured : stated_length rest ≡ due) where
+        pub judges_short_value : length rest < field_size (stated_length rest) → judge_field tag due in_range rest ≡ Err Short
+        unfolding judge_field
+        judges_short_value short =
+            rw (
+              le-ltb (length rest) start_size started,
+              eq-eqb (tag_of rest) tag tagged,
+              eq-eqb (stated_length rest) due measured,
+              lt-ltb (length rest) (field_size (stated_length rest)) short,
+            )
+            refl
+
         -- Where all else is well, the range of the value decides.
         pub judges_by_range : field_size (stated_length rest) ≤ length rest → judge_field tag due in_range rest ≡ refuse_if (not (in_range (value_of due rest))) OutOfRange (Ok due)
         unfolding judge_field

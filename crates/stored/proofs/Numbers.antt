@@ -1,12 +1,14 @@
 -- Laws of numbers as bytes: bytes and the number that they spell determine each other. Assumes nothing.
-use Prim.Native.Nat.{ℕ, zero, suc, ◌+◌, ◌*◌, ◌/◌, ◌%◌, ◌^◌, ◌<◌}
+use Prim.Native.Nat.{ℕ, zero, suc, ◌+◌, ◌*◌, ◌/◌, ◌%◌, ◌^◌, ◌≤◌, ◌<◌}
 use native.Mathlib.Nat.{mod-lt, mod-eq_of_lt, mul_assoc, pow-succ', div-one, mod-one, pow-le-pow_right, mul-add-div_right, mul-add-mod_self_right}
+use native.Mathlib.Numerals.{add-one, add-two, add-three}
 use native.Mathlib.Omega.{arith}
 use mathlib.Core.Path.{◌≡◌, refl, sym, ap, ap₂, ◌∙◌}
 use mathlib.Core.List.{List, [], ◌∷◌}
 use lib.Arith.{digits_div, digits_lt, mod-mul}
-use lib.ListN.{length}
-use Rattle.stored.specs.Numbers.{big_endian, spelled, AreBytes}
+use lib.ListN.{length, get_or}
+use lib.Seq.{drop-cons}
+use Rattle.stored.specs.Numbers.{big_endian, spelled, number_at, AreBytes}
 
 ------------------------------------------------------------------------
 -- Bytes of a number
@@ -66,7 +68,29 @@ big_endian_of_spelled (b ∷ bs) h =
     (big_endian_low (length bs) b (spelled bs) ∙ big_endian_of_spelled bs (λ i. h (suc i)))
 
 ------------------------------------------------------------------------
--- Four bytes at an offset, and four stores
+-- Four bytes at an offset
+
+spelled_four : (a b c d : ℕ) → spelled (a ∷ b ∷ c ∷ d ∷ []) ≡ a * 16777216 + b * 65536 + c * 256 + d
+unfolding spelled
+spelled_four a b c d = omega arith
+
+number_of_four : (bs : List ℕ) (at : ℕ) → at + 4 ≤ length bs → number_at bs at ≡ get_or bs at 0 * 16777216 + get_or bs (at + 1) 0 * 65536 + get_or bs (at + 2) 0 * 256 + get_or bs (at + 3) 0
+unfolding number_at
+number_of_four bs at h =
+    rw (
+      add-one,
+      add-two,
+      add-three,
+      drop-cons bs at 0 (omega arith),
+      drop-cons bs (suc at) 0 (omega arith),
+      drop-cons bs (suc (suc at)) 0 (omega arith),
+      drop-cons bs (suc (suc (suc at))) 0 (omega arith),
+    )
+    (spelled_four (get_or bs at 0) (get_or bs (suc at) 0) (get_or bs (suc (suc at)) 0) (get_or bs (suc (suc (suc at))) 0))
+
+-- Four bytes, each weighed by its place, make the number that they spell.
+pub four_bytes_spell : (bs : List ℕ) (at a b c d : ℕ) → at + 4 ≤ length bs → a ≡ get_or bs at 0 → b ≡ get_or bs (at + 1) 0 → c ≡ get_or bs (at + 2) 0 → d ≡ get_or bs (at + 3) 0 → a * 16777216 + b * 65536 + c * 256 + d ≡ number_at bs at
+four_bytes_spell bs at a b c d h ea eb ec ed = rw (ea, eb, ec, ed) (sym (number_of_four bs at h))
 
 pub big_endian_four : (x : ℕ) → big_endian 4 x ≡ x / 16777216 % 256 ∷ x / 65536 % 256 ∷ x / 256 % 256 ∷ x % 256 ∷ []
 unfolding big_endian

@@ -1,17 +1,43 @@
 -- Laws of writing one thing behind another, beyond those of a pen. Assumes nothing.
 use Prim.Native.Nat.{ℕ, ◌+◌, ◌≤◌}
+use native.Mathlib.Nat.{add_assoc}
 use native.Mathlib.Omega.{arith}
-use mathlib.Core.Path.{◌≡◌}
-use mathlib.Core.List.{List, ◌++◌}
+use mathlib.Core.Path.{◌≡◌, sym, ap, ap₂, ◌∙◌}
+use mathlib.Core.List.{List, [], ◌++◌}
 use lib.ListN.{length, length-append}
 use Rattle.lines.specs.Puts.{Puts}
+use Rattle.lines.specs.Written.{written}
 use Rattle.lines.specs.declared.Pen.{Pen}
 use Rattle.lines.proofs.PutsLaws.{HasRoom, puts_then, puts_length, puts_room}
+use Rattle.lines.proofs.WrittenLaws.{written_then, written_nothing, length_written}
 use Rattle.wording.specs.Wrote.{Wrote}
 
 -- What a pen put was written into its buffer, from its place on.
 pub wrote : {p q : Pen} {xs : List ℕ} → Puts p xs q → Wrote p.buf.now p.at xs q.buf.now q.at
 wrote w = record { place = w.place; holds = w.holds }
+
+-- Without a pen, of any lists: what was written behind what was written is both.
+pub wrote_then :
+    {b xs mid ys out : List ℕ} {at r r' : ℕ} → at + length xs ≤ length b → Wrote b at xs mid r → Wrote mid r ys out r' →
+    Wrote b at (xs ++ ys) out r'
+wrote_then {b} {xs} {mid} {ys} {out} {at} {r} {r'} room w v =
+    record {
+      place = v.place ∙ ap (λ (k : ℕ). k + length ys) w.place ∙ add_assoc at (length xs) (length ys) ∙ ap (λ (k : ℕ). at + k) (sym (length-append xs ys));
+      holds =
+          v.holds ∙ ap₂ (λ (m : List ℕ) (k : ℕ). written m k ys) w.holds w.place ∙ written_then b at xs ys room;
+    }
+
+-- The buffer keeps its length.
+pub wrote_length : {b xs out : List ℕ} {at r : ℕ} → at + length xs ≤ length b → Wrote b at xs out r → length out ≡ length b
+wrote_length {b} {xs} {out} {at} {r} room w = ap length w.holds ∙ length_written b at xs room
+
+-- Nothing was written yet.
+pub wrote_nothing : (b : List ℕ) (at : ℕ) → Wrote b at [] b at
+wrote_nothing b at = record { place = omega arith; holds = sym (written_nothing b at) }
+
+-- Equal bytes were written.
+pub wrote_same : {b xs ys out : List ℕ} {at r : ℕ} → xs ≡ ys → Wrote b at xs out r → Wrote b at ys out r
+wrote_same e w = rw e at w
 
 ------------------------------------------------------------------------
 -- A run of writes, with a bound on what it has written so far
