@@ -1,4 +1,5 @@
 -- `reader::taken::read_table` meets its contract: the table is taken out of the grid that was read. Assumes nothing.
+use mathlib.Core.Path.{refl}
 use Rattle.table.proofs.GridLaws.{blank_blocks}
 use Rattle.reader.proofs.WholeGrids.{head_fits, whole_is_read, refused_is_read}
 use Rattle.reader.proofs.taken.read_table.Goals as goal
@@ -18,4 +19,4 @@ returns-in-Ok c =
 
 pub returns-in-Err : goal.returns-in-Err
 returns-in-Err c =
-    refused_is_read _ _ c.read_grid.result c.read_grid.ensures c.in-Err.misread c.zeros.result c.in-Err.is c.zeros.ensures
+    refused_is_read _ _ c.read_grid.result c.read_grid.ensures c.in-Err.misread _ c.in-Err.is (rw c.zeros.ensures refl)
